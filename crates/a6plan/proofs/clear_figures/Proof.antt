@@ -1,0 +1,62 @@
+-- `a6plan::clear_figures` meets its contract. Assumes nothing.
+use Prim.Native.Nat.{_-_, _≤_}
+use mathlib.Core.Path.{_≡_, refl}
+use mathlib.Core.List.{_++_, append-nil}
+use lib.ListN.{length, drop, length-set}
+use lib.Seq.{drop-length}
+use native.Mathlib.Omega.{arith}
+use Rattle.octets.specs.Octets.{blank}
+use Rattle.octets.proofs.OctetLaws.{blank-more}
+use Rattle.a6plan.proofs.clear_figures.Statement.{statement}
+use Rattle.a6plan.proofs.clear_figures.Tie as tie
+
+abbrev Inv-loop : tie.InvT-loop
+Inv-loop out₀ n i₀ out i = (i ≤ n) × (n ≡ length out₀) × (length out ≡ length out₀) × (out ≡ blank i ++ drop i out₀)
+
+abbrev μ-loop : tie.MeasureT-loop
+μ-loop out₀ n i₀ out i = n - i
+
+loop-holds : tie.Need-loop-holds Inv-loop μ-loop
+unfolding blank
+loop-holds c = (omega arith, refl, refl, refl)
+
+slice-write-figures : tie.Need-slice-write-figures Inv-loop μ-loop
+slice-write-figures c = omega arith
+
+mul-figures : tie.Need-mul-figures Inv-loop μ-loop
+mul-figures c = omega (arith, c .before .before .good .0 .1)
+
+add-i : tie.Need-add-i Inv-loop μ-loop
+add-i c = omega arith
+
+loop-less : tie.Need-loop-less Inv-loop μ-loop
+loop-less c = omega arith
+
+loop-again : tie.Need-loop-again Inv-loop μ-loop
+loop-again c =
+    let at = c .before .loop in
+    (omega arith, refl, simp length-set (at .inv .2), rw (at .inv .3) (blank-more (c .before .before .args .figures .now) (at .i) (omega arith)))
+
+same-length : tie.Need-same-length Inv-loop μ-loop
+same-length c = c .before .loop .inv .2
+
+returns : tie.Need-returns Inv-loop μ-loop
+returns c =
+    let at = c .before .loop in
+    let e : at .i ≡ length (c .before .before .args .figures .now) = omega arith in
+    rw (at .inv .3, e, drop-length) (append-nil _)
+
+pub clear-figures-spec : {M : Type 1} → statement M
+clear-figures-spec =
+    tie.close
+    (tie.spec
+    Inv-loop
+    μ-loop
+    loop-holds
+    mul-figures
+    slice-write-figures
+    add-i
+    loop-less
+    loop-again
+    same-length
+    returns)

@@ -1,0 +1,5 @@
+pub mod BitsLaws
+pub mod AddressLaws
+pub mod JoinLaws
+pub mod ClearLaws
+pub mod OrderLaws

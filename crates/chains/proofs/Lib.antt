@@ -1,0 +1,11 @@
+pub mod Examples
+pub mod ListLaws
+pub mod ChainLaws
+pub mod ListingLaws
+pub mod Walks
+pub mod Listed
+pub mod Cutting
+pub mod AddressesLaws
+pub mod SpellingLaws
+pub mod RenamingLaws
+pub mod FoldingLaws

@@ -1,0 +1,89 @@
+-- Laws of what standard_form answers. Assumes nothing.
+use Prim.Native.Nat.{ℕ, suc, _-_}
+use mathlib.Core.Path.{_≡_, refl, ap, _∙_, sym}
+use mathlib.Core.Bool.{true, false}
+use mathlib.Core.List.{List, [], _++_}
+use lib.ListN.{length, drop}
+use lib.Seq.{take-all, paste}
+use native.Mathlib.Omega.{arith}
+use native.Mathlib.Nat.{zero-add}
+use borrow.Author.Tests.{eq-eqb, ne-eqb}
+use Rattle.octets.specs.Octets.{blank}
+use Rattle.names.specs.Scan.{Reading, refused, done, scanOf, apart, labelsOf, fills, wellFormed}
+use Rattle.names.specs.Standard.{standardOf}
+use Rattle.names.specs.Steps.{scanned}
+use Rattle.octets.specs.Answers.{answering, refusal}
+use Rattle.names.specs.Answers.{standardNumber, standardAnswer, standardOut}
+use Rattle.octets.proofs.OctetLaws.{nil-of-length, drop-blank}
+
+-- what a scan says of a given name
+module _ (name : List ℕ) where
+  pub form-number : (scanned (scanOf name) .number ≡ 0 → ⊥) → wellFormed name ≡ false
+  unfolding scanned wellFormed
+  form-number h = go (scanOf name) h
+    where
+      go : (r : Reading) → (scanned r .number ≡ 0 → ⊥) → fills (length name) r ≡ false
+      go (refused n) h = refl
+      go (done ls u) h = absurd (h refl)
+
+  pub form-used : (scanned (scanOf name) .used ≡ length name → ⊥) → wellFormed name ≡ false
+  unfolding scanned wellFormed
+  form-used h = go (scanOf name) h
+    where
+      go : (r : Reading) → (scanned r .used ≡ length name → ⊥) → fills (length name) r ≡ false
+      go (refused n) h = refl
+      go (done ls u) h = ne-eqb u (length name) h
+
+  pub form-good : scanned (scanOf name) .number ≡ 0 → scanned (scanOf name) .used ≡ length name → wellFormed name ≡ true
+  unfolding scanned wellFormed scanOf
+  form-good h k = go (scanOf name) refl h k
+    where
+      go : (r : Reading) → scanOf name ≡ r → scanned r .number ≡ 0 → scanned r .used ≡ length name → fills (length name) r ≡ true
+      go (refused n) e h k =
+          let z : name ≡ [] = nil-of-length name (sym k) in
+          let y : refused 11 ≡ refused n = ap scanOf (sym z) ∙ e in
+          let x : _≡_ {A = ℕ} 11 n = cc in
+          let w : ⊥ = omega arith in absurd w
+      go (done ls u) e h k = eq-eqb u (length name) k
+
+  pub form-standard : scanned (scanOf name) .standard ≡ true → apart false (labelsOf (scanOf name)) ≡ true
+  unfolding scanned labelsOf
+  form-standard h = go (scanOf name) h
+    where
+      go : (r : Reading) → scanned r .standard ≡ true → apart false (labelsOf r) ≡ true
+      go (refused n) h = let z : _≡_ {A = ℕ} 0 1 = cc in let w : ⊥ = omega arith in absurd w
+      go (done ls u) h = h
+
+-- the numbers
+module _ (name : List ℕ) (room : ℕ) where
+  pub number-malformed : wellFormed name ≡ false → standardNumber name room ≡ 4
+  unfolding standardNumber
+  number-malformed h = rw (standardNumber, h)
+
+  pub number-room : wellFormed name ≡ true → (room ≡ 255 → ⊥) → standardNumber name room ≡ 5
+  unfolding standardNumber
+  number-room h k = rw (standardNumber, h, ne-eqb room 255 k)
+
+  pub number-done : wellFormed name ≡ true → room ≡ 255 → standardNumber name room ≡ 0
+  unfolding standardNumber
+  number-done h k = rw (standardNumber, h, eq-eqb room 255 k)
+
+  pub refused-answer : (j : ℕ) → standardNumber name room ≡ suc j → standardAnswer name room ≡ refusal (suc j)
+  unfolding standardAnswer
+  refused-answer j e = rw e
+
+  pub refused-out : (j : ℕ) → standardNumber name room ≡ suc j → standardOut name room ≡ blank room
+  unfolding standardOut
+  refused-out j e = rw e
+
+  pub done-answer : (n : ℕ) → standardNumber name room ≡ 0 → n ≡ length (standardOf name) → answering n 0 ≡ standardAnswer name room
+  unfolding standardAnswer
+  done-answer n e f = rw (e, f)
+
+  pub done-out : standardNumber name room ≡ 0 → standardOut name room ≡ standardOf name ++ blank (room - length (standardOf name))
+  unfolding standardOut
+  done-out e = rw e
+
+-- a copy to the front of zeros
+pub copied : (name out : List ℕ) (n room : ℕ) → n ≡ length name → out ≡ paste (blank room) 0 (drop 0 name) n → out ≡ name ++ blank (room - length name)
+copied name out n room e p = p ∙ rw (zero-add n, e, take-all (length name) name (omega arith), drop-blank (length name) room)

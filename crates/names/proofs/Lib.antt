@@ -1,0 +1,11 @@
+pub mod LabelLaws
+pub mod ScanLaws
+pub mod Written
+pub mod Merged
+pub mod WriteLaws
+pub mod RoundLaws
+pub mod StandardLaws
+pub mod AnswerLaws
+pub mod NameLaws
+pub mod MergeLaws
+pub mod Examples

@@ -1,0 +1,50 @@
+-- Laws of a name held by value. Assumes nothing.
+use Prim.Native.Nat.{ℕ, _≤_}
+use mathlib.Core.Path.{_≡_, refl}
+use mathlib.Core.Bool.{Bool, true, false}
+use mathlib.Core.List.{List, []}
+use lib.ListN.{length}
+use native.Mathlib.Omega.{arith}
+use Rattle.octets.specs.Octets.{blank, Small}
+use Rattle.octets.specs.declared.Answer.{Answer}
+use Rattle.names.specs.Scan.{wellFormed}
+use Rattle.names.specs.Standard.{standardOf}
+use Rattle.names.specs.Name.{nameOf, heldOf}
+use Rattle.names.specs.Answers.{standardAnswer, standardOut}
+use Rattle.names.specs.declared.Name.{Name}
+use Rattle.names.proofs.MergeLaws.{begins-start}
+use Rattle.names.proofs.RoundLaws.{standard-shorter}
+use Rattle.names.proofs.AnswerLaws.{number-malformed, number-done, refused-answer, refused-out, done-answer, done-out}
+
+-- a standard form has at most 255 octets
+pub standard-short : (name : List ℕ) → Small name → wellFormed name ≡ true → length (standardOf name) ≤ 255
+standard-short name s w = let b = begins-start name w .short in let k = standard-shorter name s w in omega arith
+
+pub held-formed : (name : List ℕ) → wellFormed name ≡ true → heldOf name ≡ nameOf (standardOf name)
+unfolding heldOf
+held-formed name w = rw (w, heldOf)
+
+pub held-malformed : (name : List ℕ) → wellFormed name ≡ false → heldOf name ≡ nameOf []
+unfolding heldOf
+held-malformed name w = rw (w, heldOf)
+
+-- the answer and the output of `standard_form` are the parts of the value
+module _ (name : List ℕ) (s : Small name) where
+  pub held-short : standardAnswer name 255 .count ≤ 255
+  held-short = go (wellFormed name) refl
+    where
+      go : (t : Bool) → wellFormed name ≡ t → standardAnswer name 255 .count ≤ 255
+      go true w = let a = done-answer name 255 (length (standardOf name)) (number-done name 255 w refl) refl in rw (← a) (standard-short name s w)
+      go false w = rw (refused-answer name 255 3 (number-malformed name 255 w)) (omega arith)
+
+pub held-is : (name out : List ℕ) (a : Answer) → a ≡ standardAnswer name 255 → out ≡ standardOut name 255 → _≡_ {A = Name} (record { octets = out; length = a .count }) (heldOf name)
+unfolding nameOf blank
+held-is name out a p q = rw (p, q) (go (wellFormed name) refl)
+  where
+    go : (t : Bool) → wellFormed name ≡ t → _≡_ {A = Name} (record { octets = standardOut name 255; length = standardAnswer name 255 .count }) (heldOf name)
+    go true w =
+        let e = number-done name 255 w refl in
+        rw (done-out name 255 e, ← done-answer name 255 (length (standardOf name)) e refl, held-formed name w)
+    go false w =
+        let e = number-malformed name 255 w in
+        rw (refused-out name 255 3 e, refused-answer name 255 3 e, held-malformed name w)

@@ -1,0 +1,5 @@
+pub mod OctetLaws
+pub mod SameLaws
+pub mod BitLaws
+pub mod PackingLaws
+pub mod PackLaws

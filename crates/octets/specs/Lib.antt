@@ -1,0 +1,4 @@
+pub mod Octets
+pub mod Bits
+pub mod Answers
+pub mod Packing

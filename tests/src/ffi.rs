@@ -1,0 +1,75 @@
+//! The library's C interface with safe wrappers. A slice is a pointer and a length in elements.
+
+extern "C" {
+    fn a6plan_standard(
+        name: *const u8,
+        name_length: usize,
+        out: *mut u8,
+        out_length: usize,
+        figures: *mut u32,
+        figures_length: usize,
+    ) -> u32;
+}
+
+#[cfg(feature = "a6")]
+extern "C" {
+    fn a6plan_read(data: *const u8, data_length: usize, value: *mut u8, value_length: usize) -> u32;
+    fn a6plan_write(
+        value: *const u8,
+        value_length: usize,
+        out: *mut u8,
+        out_length: usize,
+        figures: *mut u32,
+        figures_length: usize,
+    ) -> u32;
+}
+
+#[cfg(feature = "plan")]
+extern "C" {
+    fn a6plan_check(table: *const u8, table_length: usize) -> u32;
+    fn a6plan_owner(
+        table: *const u8,
+        table_length: usize,
+        index: usize,
+        figures: *mut u32,
+        figures_length: usize,
+    ) -> u32;
+}
+
+/// The standard form of `name` in `out`; figures: its length and 0.
+pub fn standard(name: &[u8], out: &mut [u8], figures: &mut [u32]) -> u32 {
+    // SAFETY: each pointer and length come from one live slice, and the written ones are lent mutably.
+    unsafe {
+        a6plan_standard(name.as_ptr(), name.len(), out.as_mut_ptr(), out.len(), figures.as_mut_ptr(), figures.len())
+    }
+}
+
+/// The value that the A6 data holds.
+#[cfg(feature = "a6")]
+pub fn read(data: &[u8], value: &mut [u8]) -> u32 {
+    // SAFETY: each pointer and length come from one live slice, and the written one is lent mutably.
+    unsafe { a6plan_read(data.as_ptr(), data.len(), value.as_mut_ptr(), value.len()) }
+}
+
+/// The A6 data of a value in `out`; figures: octets written and 0.
+#[cfg(feature = "a6")]
+pub fn write(value: &[u8], out: &mut [u8], figures: &mut [u32]) -> u32 {
+    // SAFETY: each pointer and length come from one live slice, and the written ones are lent mutably.
+    unsafe {
+        a6plan_write(value.as_ptr(), value.len(), out.as_mut_ptr(), out.len(), figures.as_mut_ptr(), figures.len())
+    }
+}
+
+/// 0 for a table in order, else 1, 2 or 3.
+#[cfg(feature = "plan")]
+pub fn check(table: &[u8]) -> u32 {
+    // SAFETY: pointer and length come from one live slice.
+    unsafe { a6plan_check(table.as_ptr(), table.len()) }
+}
+
+/// Where the owner of record `index` stands in the table; figures: offset and length.
+#[cfg(feature = "plan")]
+pub fn owner(table: &[u8], index: usize, figures: &mut [u32]) -> u32 {
+    // SAFETY: each pointer and length come from one live slice, and the written one is lent mutably.
+    unsafe { a6plan_owner(table.as_ptr(), table.len(), index, figures.as_mut_ptr(), figures.len()) }
+}

@@ -1,0 +1,173 @@
+//! Names (01, Names): reading one left to right, its standard form.
+
+/// The most octets in a name.
+pub const NAME: usize = 255;
+/// The most bits in a run of bit labels.
+const RUN: usize = 256;
+/// The first octet of a bit label.
+const BIT_LABEL: u8 = 65;
+
+/// What reading a name gives.
+#[derive(Clone, Copy, Debug, PartialEq)]
+pub struct Scan {
+    /// 0, or 11 where the octets end too soon, or 12 where the name is malformed.
+    pub number: u32,
+    /// Octets of the name, its zero octet included; 0 on a refusal.
+    pub used: usize,
+    /// No two bit labels stand side by side.
+    pub standard: bool,
+}
+
+const ENDS_TOO_SOON: Scan = Scan { number: 11, used: 0, standard: false };
+const MALFORMED: Scan = Scan { number: 12, used: 0, standard: false };
+
+/// Bits in a bit label with this count octet.
+#[inline(always)]
+fn bits_of(count: u8) -> usize {
+    if count == 0 {
+        RUN
+    } else {
+        count as usize
+    }
+}
+
+/// Reads the name that `data` begins with, judging each label in the order of 01's last table.
+#[inline(always)]
+pub fn scan(data: &[u8]) -> Scan {
+    let mut at = 0;
+    let mut run = 0;
+    let mut standard = true;
+    loop {
+        let Some(&first) = data.get(at) else { return ENDS_TOO_SOON };
+        if first.wrapping_sub(1) < 63 {
+            at += 1 + first as usize;
+            if at > data.len() {
+                return ENDS_TOO_SOON;
+            }
+            if at > NAME {
+                return MALFORMED;
+            }
+            run = 0;
+        } else if first == BIT_LABEL {
+            let Some(&count) = data.get(at + 1) else { return ENDS_TOO_SOON };
+            let bits = bits_of(count);
+            at += 2 + bits.div_ceil(8);
+            if at > data.len() {
+                return ENDS_TOO_SOON;
+            }
+            let unused = (1_u8 << (bits.wrapping_neg() % 8)) - 1;
+            standard &= run == 0;
+            run += bits;
+            if at > NAME || data[at - 1] & unused != 0 || run > RUN {
+                return MALFORMED;
+            }
+        } else if first == 0 {
+            at += 1;
+            if at > NAME {
+                return MALFORMED;
+            }
+            return Scan { number: 0, used: at, standard };
+        } else {
+            return MALFORMED;
+        }
+    }
+}
+
+/// 256 bits, left-justified: the higher half first.
+#[derive(Clone, Copy)]
+struct Bits {
+    high: u128,
+    low: u128,
+}
+
+impl Bits {
+    fn from(octets: &[u8]) -> Bits {
+        let mut all = [0; 32];
+        all[..octets.len()].copy_from_slice(octets);
+        let half = |at: usize| u128::from_be_bytes(all[at..at + 16].try_into().expect("sixteen octets"));
+        Bits { high: half(0), low: half(16) }
+    }
+
+    /// These bits moved `by` places away from the root, 1 to 255.
+    fn lowered(self, by: usize) -> Bits {
+        if by >= 128 {
+            Bits { high: 0, low: self.high >> (by - 128) }
+        } else {
+            Bits { high: self.high >> by, low: self.low >> by | self.high << (128 - by) }
+        }
+    }
+
+    fn put(self, octets: &mut [u8]) {
+        let mut all = [0; 32];
+        all[..16].copy_from_slice(&self.high.to_be_bytes());
+        all[16..].copy_from_slice(&self.low.to_be_bytes());
+        octets.copy_from_slice(&all[..octets.len()]);
+    }
+}
+
+/// Writes the standard form of `name`, a whole name that `scan` accepts, to the beginning of `out`, which has room
+/// for it. Gives its length.
+#[inline(always)]
+pub fn put_standard(name: &[u8], standard: bool, out: &mut [u8]) -> usize {
+    if standard {
+        out[..name.len()].copy_from_slice(name);
+        return name.len();
+    }
+    merge(name, out)
+}
+
+/// `put_standard` where bit labels stand side by side: in a run the label on the right is nearer to the root, so its
+/// bits come first.
+fn merge(name: &[u8], out: &mut [u8]) -> usize {
+    let mut at = 0;
+    let mut to = 0;
+    loop {
+        let first = name[at];
+        if first == 0 {
+            out[to] = 0;
+            return to + 1;
+        }
+        if first != BIT_LABEL {
+            let size = 1 + first as usize;
+            out[to..to + size].copy_from_slice(&name[at..at + size]);
+            at += size;
+            to += size;
+            continue;
+        }
+        let mut run = bits_of(name[at + 1]);
+        let mut size = run.div_ceil(8);
+        let mut merged = Bits::from(&name[at + 2..at + 2 + size]);
+        at += 2 + size;
+        while name[at] == BIT_LABEL {
+            let bits = bits_of(name[at + 1]);
+            size = bits.div_ceil(8);
+            let next = Bits::from(&name[at + 2..at + 2 + size]);
+            let lowered = merged.lowered(bits);
+            merged = Bits { high: next.high | lowered.high, low: next.low | lowered.low };
+            run += bits;
+            at += 2 + size;
+        }
+        size = run.div_ceil(8);
+        out[to] = BIT_LABEL;
+        out[to + 1] = run as u8;
+        merged.put(&mut out[to + 2..to + 2 + size]);
+        to += 2 + size;
+    }
+}
+
+/// The answer of `a6plan_standard`: 4 for a name that is malformed or does not fill its slice, then 5 for an output
+/// not of 255 octets or figures not of two, then 0 with the standard form, zeros after it, and its length and 0.
+#[inline(never)]
+pub fn standard(name: &[u8], out: &mut [u8], figures: &mut [u32]) -> u32 {
+    out.fill(0);
+    figures.fill(0);
+    let scan = scan(name);
+    if scan.number != 0 || scan.used != name.len() {
+        return 4;
+    }
+    if out.len() != NAME || figures.len() != 2 {
+        return 5;
+    }
+    figures[0] = put_standard(name, scan.standard, out) as u32;
+    0
+}

@@ -1,0 +1,1 @@
+//! The plan table (01, The plan table).
