@@ -1,5 +1,7 @@
 //! Memory lent to a call, with guard cells on both sides of it.
 
+use std::fmt::Debug;
+
 /// Guard cells on each side.
 const GUARDS: usize = 32;
 
@@ -38,12 +40,40 @@ impl<T: Copy + PartialEq> Lent<T> {
     }
 }
 
-/// Lent octets for outputs of up to `most`.
-pub fn octets(most: usize) -> Lent<u8> {
-    Lent::new(most, 0xe7, 0x9c)
+/// The same memory lent twice, to the library and to the reference.
+pub struct Pair<T> {
+    library: Lent<T>,
+    reference: Lent<T>,
 }
 
-/// Lent figures, up to `most` of them.
-pub fn figures(most: usize) -> Lent<u32> {
-    Lent::new(most, 0xe7e7_e7e7, 0x9c9c_9c9c)
+impl<T: Copy + PartialEq + Debug> Pair<T> {
+    pub fn library(&mut self, length: usize) -> &mut [T] {
+        self.library.lend(length)
+    }
+
+    pub fn reference(&mut self, length: usize) -> &mut [T] {
+        self.reference.lend(length)
+    }
+
+    /// What the library left.
+    pub fn shown(&self) -> &[T] {
+        self.library.shown()
+    }
+
+    /// Both sides left the same in every cell, and the library changed nothing beside it.
+    pub fn agree(&self) -> bool {
+        self.library.shown() == self.reference.shown() && self.library.unharmed()
+    }
+}
+
+/// Outputs of up to `most` octets.
+pub fn octets(most: usize) -> Pair<u8> {
+    let side = || Lent::new(most, 0xe7, 0x9c);
+    Pair { library: side(), reference: side() }
+}
+
+/// Up to `most` figures.
+pub fn figures(most: usize) -> Pair<u32> {
+    let side = || Lent::new(most, 0xe7e7_e7e7, 0x9c9c_9c9c);
+    Pair { library: side(), reference: side() }
 }

@@ -1,8 +1,9 @@
 //! Tests of the A6 plan library from outside, through its C interface.
 //!
-//! The rules are those of papers/01-scope.md, called 01 in the comments. Three answers stand side by side:
-//! `ffi` calls the library; `reference` is an independent Rust version written for speed, which the benchmarks also
-//! use; `plain` spells the rules out slowly (lists of units, one bit at a time) and judges the reference.
+//! The rules are those of the paper "The A6 plan library and its rules", called 01 in the comments. Three answers
+//! stand side by side: `ffi` calls the library; `reference` is an independent Rust version written for speed, which
+//! the benchmarks also use; `plain` spells the rules out slowly (lists of units, one bit at a time) and judges the
+//! reference.
 
 pub mod ffi;
 pub mod generate;

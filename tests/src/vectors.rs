@@ -15,7 +15,7 @@ pub fn octets(column: &str) -> Vec<u8> {
     if column == "-" {
         return Vec::new();
     }
-    assert!(column.len() % 2 == 0, "an odd number of digits: {column}");
+    assert!(column.len().is_multiple_of(2), "an odd number of digits: {column}");
     let digit = |at: usize| u8::from_str_radix(&column[at..at + 2], 16).expect("two hexadecimal digits");
     (0..column.len()).step_by(2).map(digit).collect()
 }

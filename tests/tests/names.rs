@@ -2,38 +2,30 @@
 
 use a6plan_tests::generate::names::{self as make, Name};
 use a6plan_tests::generate::Random;
-use a6plan_tests::lent::{self, Lent};
+use a6plan_tests::lent::{self, Pair};
 use a6plan_tests::plain::names::{self as plain, Why};
 use a6plan_tests::reference::names as reference;
 use a6plan_tests::{ffi, vectors};
 
 /// Memory for the library's call and for the reference's.
 struct Sides {
-    out: Lent<u8>,
-    figures: Lent<u32>,
-    reference_out: Lent<u8>,
-    reference_figures: Lent<u32>,
+    out: Pair<u8>,
+    figures: Pair<u32>,
 }
 
 impl Sides {
     fn new() -> Sides {
-        Sides {
-            out: lent::octets(300),
-            figures: lent::figures(4),
-            reference_out: lent::octets(300),
-            reference_figures: lent::figures(4),
-        }
+        Sides { out: lent::octets(300), figures: lent::figures(4) }
     }
 
     /// The library's number. Its answer, every octet of the output and both figures are the reference's, and nothing
     /// beside them has changed.
     fn number(&mut self, name: &[u8], out: usize, figures: usize) -> u32 {
-        let number = ffi::standard(name, self.out.lend(out), self.figures.lend(figures));
-        let expected = reference::standard(name, self.reference_out.lend(out), self.reference_figures.lend(figures));
+        let number = ffi::standard(name, self.out.library(out), self.figures.library(figures));
+        let expected = reference::standard(name, self.out.reference(out), self.figures.reference(figures));
         assert_eq!(number, expected, "number for {name:02x?}, output {out}, figures {figures}");
-        assert_eq!(self.out.shown(), self.reference_out.shown(), "output for {name:02x?}");
-        assert_eq!(self.figures.shown(), self.reference_figures.shown(), "figures for {name:02x?}");
-        assert!(self.out.unharmed() && self.figures.unharmed(), "guards for {name:02x?}");
+        assert!(self.out.agree(), "output for {name:02x?}: {:02x?}", self.out.shown());
+        assert!(self.figures.agree(), "figures for {name:02x?}: {:?}", self.figures.shown());
         number
     }
 
@@ -209,19 +201,21 @@ fn an_ordinary_label_ends_a_run() {
     assert_eq!(sides.form(&name.octets), name.octets);
 }
 
+/// What follows the first octet is what it would need as the length of an ordinary label, and as a bit label.
 #[test]
 fn every_first_octet_is_judged_at_the_beginning_and_after_each_kind_of_label() {
     let mut sides = Sides::new();
     for before in [&[][..], &[1, b'a'], &[65, 3, 0xe0], &[65, 8, 0x41, 2, b'b', 0]] {
         for first in 0..=255_u8 {
-            let body = match first {
-                0 => vec![],
-                1..=63 => [&[b'x'; 63][..first as usize], &[0]].concat(),
-                _ => vec![16, 0xfe, 0xdc, 1, b'a', 0],
-            };
-            let name = [before, &[first], &body].concat();
-            let expected = if first < 64 || first == 65 { 0 } else { 4 };
-            assert_eq!(sides.usual(&name), expected, "first octet {first} after {before:02x?}");
+            let labelled = [before, &[first], &[b'x'; 255][..first as usize], &[0]].concat();
+            let labelled = if first == 0 { &labelled[..labelled.len() - 1] } else { &labelled };
+            let expected = if first < 64 { 0 } else { 4 };
+            assert_eq!(sides.usual(labelled), expected, "first octet {first} after {before:02x?}, then a label");
+            if first >= 64 {
+                let bits = [before, &[first], &[16, 0xfe, 0xdc, 1, b'a', 0]].concat();
+                let expected = if first == 65 { 0 } else { 4 };
+                assert_eq!(sides.usual(&bits), expected, "first octet {first} after {before:02x?}, then bits");
+            }
         }
     }
 }
@@ -286,7 +280,7 @@ fn names_of_253_to_255_octets_are_taken_and_of_256_to_258_refused() {
     }
 }
 
-/// The 255 octets count the name as given, before merging (ARCHITECTURE, Readings of 01).
+/// The 255 octets count the name as given, before merging (docs/DECISIONS.md).
 #[test]
 fn names_of_253_to_258_octets_whose_merged_form_is_shorter() {
     let mut sides = Sides::new();

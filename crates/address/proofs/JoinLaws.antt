@@ -1,31 +1,26 @@
--- The join octet by octet, as the loop makes it. Assumes nothing.
-use Prim.Native.Nat.{ℕ, zero, suc, _+_, _-_, _*_, _/_, _%_, _^_, _≤_, _<_}
-use mathlib.Core.Path.{_≡_, ap, _∙_, sym}
-use mathlib.Core.List.{List, [], _∷_, _++_, append-assoc, append-nil}
-use lib.ListN.{length, getD, take, drop, set, drop-of-length-le}
-use lib.Seq.{drop-cons, set-at, length-take-le, take-suc, take-all, append-snoc}
-use lib.Pow.{pow-pos, pow-add, shr-lt}
-use lib.Arith.{digits-lt}
+-- The join octet by octet, and the masks that the code joins by. Assumes nothing.
+use Prim.Native.Nat.{ℕ, zero, suc, _+_, _-_, _*_, _/_, _%_, _^_, _≤_, _<_, min}
+use mathlib.Core.Path.{_≡_, refl, ap, _∙_, sym}
+use mathlib.Core.Bool.{Bool, true, false}
+use mathlib.Core.List.{List, [], _∷_, _++_, append-assoc}
+use lib.Bits.{bitAnd, bitOr, and-comm, and-zero-l, and-mask, and-high, or-zero-l, or-add-and, or-shifted}
+use lib.Dec.{ltb}
+use lib.ListN.{length, getD, take, drop, set}
+use lib.Pow.{pow-pos, pow-add, pow-mono, shl-shr, shr-lt, shr-mod}
+use lib.Seq.{take-suc, take-suc-set, take-all}
 use native.Mathlib.Omega.{arith}
-use native.Mathlib.Nat.{mod-one, mod-eq-of-lt, mod-lt, zero-add}
+use native.Mathlib.Nat.{mod-eq-of-lt, mod-lt, zero-add}
 use native.Mathlib.Numerals.{add-one}
+use borrow.Author.Tests.{ltb-true, ltb-false}
 use Rattle.octets.specs.Octets.{Small}
 use Rattle.octets.specs.Bits.{bitsOf, unpack, packFrom}
-use Rattle.octets.proofs.BitLaws.{pack-some, pack-full, pack-unpack}
+use Rattle.octets.proofs.BitLaws.{pack-some, pack-full}
 use Rattle.address.specs.Address.{joinOf}
-use Rattle.address.proofs.AddressLaws.{join-all}
 use Rattle.address.proofs.BitsLaws.{unpack-octet, octet-take, octet-drop, past-octet, beyond-octet}
 
 -- the first n bits of an octet, then those of another
 abbrev pub mix : ℕ → ℕ → ℕ → ℕ
 mix n x y = x / 2 ^ (8 - n) * 2 ^ (8 - n) + y % 2 ^ (8 - n)
-
-pub mix-small : (n x y : ℕ) → n ≤ 8 → x < 256 → mix n x y < 256
-mix-small n x y h k =
-    let w : n + (8 - n) ≡ 8 = omega arith in
-    let t : x < 2 ^ (n + (8 - n)) = rw w (omega arith) in
-    let d = digits-lt (shr-lt n (8 - n) t) (mod-lt y (pow-pos (8 - n))) in
-    rw (← pow-add 2 n (8 - n), w) at d
 
 -- all bits of octets
 abbrev every : List ℕ → List ℕ
@@ -33,9 +28,6 @@ every xs = unpack (length xs * 8) xs
 
 every-octet : (x : ℕ) (xs : List ℕ) → every (x ∷ xs) ≡ bitsOf 8 x ++ every xs
 every-octet x xs = let e : suc (length xs) * 8 ≡ 8 + length xs * 8 = omega arith in ap (λ (m : ℕ). unpack m (x ∷ xs)) e ∙ unpack-octet (length xs * 8) x xs
-
-pack-every : (xs : List ℕ) → Small xs → packFrom 0 0 (every xs) ≡ xs
-pack-every xs s = let e : (length xs * 8 + 7) / 8 ≡ length xs = omega arith in let z : (length xs * 8 + 7) / 8 * 8 - length xs * 8 ≡ 0 = omega arith in pack-unpack (length xs * 8) xs s (sym e) (rw z (mod-one _))
 
 -- one octet with bits of both
 mix-octet : (r x y : ℕ) (rest : List ℕ) → r < 8 → x < 256 → packFrom 0 0 (bitsOf r (x / 2 ^ (8 - r)) ++ (bitsOf (8 - r) y ++ rest)) ≡ mix r x y ∷ packFrom 0 0 rest
@@ -47,42 +39,102 @@ mix-octet r x y rest h k =
     let g : suc (7 - r) ≡ 8 - r = omega arith in
     pack-some r 0 0 u (bitsOf (8 - r) y ++ rest) (omega arith) ∙ rw (v, zero-add r) (rw g at (pack-full (7 - r) r u y rest (omega arith)))
 
-join-octets : (q r : ℕ) (h l : List ℕ) → Small h → Small l → length h ≡ length l → q < length h → r < 8
-    → packFrom 0 0 (take (q * 8 + r) (every h) ++ drop (q * 8 + r) (every l)) ≡ take q h ++ (mix r (getD h q 0) (getD l q 0) ∷ drop (suc q) l)
-join-octets q r [] l s t e p k = let z : ⊥ = omega arith in absurd z
-join-octets q r (x ∷ xs) [] s t e p k = let z : ⊥ = omega arith in absurd z
-join-octets zero r (x ∷ xs) (y ∷ ys) s t e p k =
-    rw (zero-add r, every-octet x xs, every-octet y ys, octet-take r x (every xs) (omega arith), octet-drop r y (every ys) (omega arith), mix-octet r x y (every ys) k (s 0), pack-every ys (λ i. t (suc i)))
-join-octets (suc q) r (x ∷ xs) (y ∷ ys) s t e p k =
-    let n : suc q * 8 + r ≡ 8 + (q * 8 + r) = omega arith in
-    let m : 0 * 2 ^ 8 + x % 2 ^ 8 ≡ x = omega (arith, s 0) in
-    let rest = take (q * 8 + r) (every xs) ++ drop (q * 8 + r) (every ys) in
-    rw (n, every-octet x xs, every-octet y ys, past-octet (q * 8 + r) x (every xs), beyond-octet (q * 8 + r) y (every ys), append-assoc (bitsOf 8 x) (take (q * 8 + r) (every xs)) (drop (q * 8 + r) (every ys)))
-    (pack-full 7 0 0 x rest (omega arith) ∙ ap (λ (z : ℕ). z ∷ packFrom 0 0 rest) m
-    ∙ ap (λ (zs : List ℕ). x ∷ zs) (join-octets q r xs ys (λ i. s (suc i)) (λ i. t (suc i)) (omega arith) (omega arith) k))
+-- the first octets of two lists, joined, before the join of the rest
+join-step : (at x y : ℕ) (xs ys : List ℕ) → x < 256 → packFrom 0 0 (take at (every (x ∷ xs)) ++ drop at (every (y ∷ ys)))
+    ≡ mix (min 8 at) x y ∷ packFrom 0 0 (take (at - 8) (every xs) ++ drop (at - 8) (every ys))
+join-step at x y xs ys s = rw (every-octet x xs, every-octet y ys) (go (ltb at 8) refl)
+  where
+    go : (t : Bool) → ltb at 8 ≡ t → packFrom 0 0 (take at (bitsOf 8 x ++ every xs) ++ drop at (bitsOf 8 y ++ every ys))
+        ≡ mix (min 8 at) x y ∷ packFrom 0 0 (take (at - 8) (every xs) ++ drop (at - 8) (every ys))
+    go true e =
+        let k : at < 8 = ltb-true at 8 e in
+        let m : min 8 at ≡ at = omega arith in
+        let z : at - 8 ≡ 0 = omega arith in
+        rw (octet-take at x (every xs) (omega arith), octet-drop at y (every ys) (omega arith), m, z) (mix-octet at x y (every ys) k s)
+    go false e =
+        let k : 8 ≤ at = ltb-false at 8 e in
+        let m : min 8 at ≡ 8 = omega arith in
+        let n : 8 + (at - 8) ≡ at = omega arith in
+        let v : 0 * 2 ^ 8 + x % 2 ^ 8 ≡ mix 8 x y = omega arith in
+        let rest = take (at - 8) (every xs) ++ drop (at - 8) (every ys) in
+        let b : take at (bitsOf 8 x ++ every xs) ≡ bitsOf 8 x ++ take (at - 8) (every xs) = rw n at (past-octet (at - 8) x (every xs)) in
+        let d : drop at (bitsOf 8 y ++ every ys) ≡ drop (at - 8) (every ys) = rw n at (beyond-octet (at - 8) y (every ys)) in
+        rw (b, d, m, append-assoc (bitsOf 8 x) (take (at - 8) (every xs)) (drop (at - 8) (every ys)))
+        (pack-full 7 0 0 x rest (omega arith) ∙ ap (λ (z : ℕ). z ∷ packFrom 0 0 rest) v)
 
--- the octets before the place are the first address's, one is mixed, the rest are the second's
-join-parts : (h l : List ℕ) (at : ℕ) → length h ≡ 16 → length l ≡ 16 → Small h → Small l → at / 8 < 16
-    → joinOf h l at ≡ take (at / 8) h ++ (mix (at % 8) (getD h (at / 8) 0) (getD l (at / 8) 0) ∷ drop (suc (at / 8)) l)
+join-octets : (k at : ℕ) (h l : List ℕ) → Small h → length h ≡ length l → k < length h
+    → getD (packFrom 0 0 (take at (every h) ++ drop at (every l))) k 0 ≡ mix (min 8 (at - k * 8)) (getD h k 0) (getD l k 0)
+join-octets k at [] l s e p = let z : ⊥ = omega arith in absurd z
+join-octets k at (x ∷ xs) [] s e p = let z : ⊥ = omega arith in absurd z
+join-octets zero at (x ∷ xs) (y ∷ ys) s e p = let z : at - 0 * 8 ≡ at = omega arith in rw (join-step at x y xs ys (s 0), z)
+join-octets (suc k) at (x ∷ xs) (y ∷ ys) s e p =
+    let z : at - suc k * 8 ≡ at - 8 - k * 8 = omega arith in
+    rw (join-step at x y xs ys (s 0), z) (join-octets k (at - 8) xs ys (λ i. s (suc i)) (omega arith) (omega arith))
+
+-- the picture in octets: those before the place from the first address, one with bits of both, the rest from the second
+pub join-octet : (h l : List ℕ) (at k : ℕ) → length h ≡ 16 → length l ≡ 16 → Small h → k < 16
+    → getD (joinOf h l at) k 0 ≡ mix (min 8 (at - k * 8)) (getD h k 0) (getD l k 0)
 unfolding joinOf
-join-parts h l at e f s t p =
-    let d : at / 8 * 8 + at % 8 ≡ at = omega arith in
-    let j = join-octets (at / 8) (at % 8) h l s t (e ∙ sym f) (omega arith) (omega arith) in
-    rw (e, f, d) at j
+join-octet h l at k e f s p = rw (e, f) at (join-octets k at h l s (e ∙ sym f) (omega arith))
 
--- the loop copies the whole octets of the first address over the second
-join-write : (h l : List ℕ) (k v : ℕ) → k < length h → k < length l → set (take k h ++ drop k l) k v ≡ take k h ++ (v ∷ drop (suc k) l)
-join-write h l k v p q = rw (drop-cons l k 0 q) (set-at (take k h) (getD l k 0) (drop (suc k) l) v k (length-take-le k h (omega arith)))
+-- one octet more is written
+pub same-more : (a b : List ℕ) (k v : ℕ) → k < length a → k < length b → take k a ≡ take k b → v ≡ getD b k 0 → take (k + 1) (set a k v) ≡ take (k + 1) b
+same-more a b k v p q e f = rw (add-one k, take-suc-set a k v p, take-suc b k 0 q, e, f)
 
-pub join-copy : (h l : List ℕ) (k : ℕ) → k < length h → k < length l → set (take k h ++ drop k l) k (getD h k 0) ≡ take (k + 1) h ++ drop (k + 1) l
-join-copy h l k p q = join-write h l k (getD h k 0) p q ∙ rw (add-one k, take-suc h k 0 p) (sym (append-snoc (take k h) (getD h k 0) (drop (suc k) l)))
+pub same-all : (a b : List ℕ) (k : ℕ) → length a ≤ k → length b ≤ k → take k a ≡ take k b → a ≡ b
+same-all a b k p q e = sym (take-all k a p) ∙ e ∙ take-all k b q
 
-module _ (h l : List ℕ) (at : ℕ) (hl : length h ≡ 16) (ll : length l ≡ 16) (hs : Small h) (ls : Small l) where
-  -- and then writes the mixed octet, if there is one
-  pub join-mixed : (whole n v : ℕ) → whole ≡ at / 8 → n ≡ at % 8 → whole < 16 → v ≡ mix n (getD h whole 0) (getD l whole 0)
-      → set (take whole h ++ drop whole l) whole v ≡ joinOf h l at
-  join-mixed whole n v w r p e = join-write h l whole v (omega arith) (omega arith) ∙ rw (e, w, r) (sym (join-parts h l at hl ll hs ls (omega arith)))
+-- the mask of an octet, and what it picks
+some-ones : (n : ℕ) → n ≤ 8 → 256 / 2 ^ n ≡ 2 ^ (8 - n)
+some-ones n h =
+    let w : 8 - n + n ≡ 8 = omega arith in
+    let e : 2 ^ (8 - n) * 2 ^ n ≡ 256 = rw w at (sym (pow-add 2 (8 - n) n)) in
+    rw e at (shl-shr (2 ^ (8 - n)) n)
 
-  pub join-whole : 128 ≤ at → take 16 h ++ drop 16 l ≡ joinOf h l at
-  join-whole p =
-      rw (take-all 16 h (omega arith), drop-of-length-le l {i = 16} (omega arith), append-nil h) (sym (join-all h l at hl ll hs p))
+pub some-small : (n : ℕ) → n ≤ 8 → 256 - 256 / 2 ^ n < 256
+some-small n h = omega (arith, some-ones n h, pow-pos (8 - n))
+
+ones-and : (v : ℕ) → v < 256 → bitAnd 255 v ≡ v
+ones-and v h = let m : v % 256 ≡ v = omega arith in and-comm 255 v ∙ and-mask v 8 ∙ m
+
+pub mask-octet : (k at : ℕ) → k < 16 → at < 256
+    → bitOr (((256 + k - at / 8) / 256 + 255) % 256) (bitAnd (((255 + k - at / 8) / 256 + 255) % 256) (256 - 256 / 2 ^ (at % 8))) ≡ 256 - 2 ^ (8 - min 8 (at - k * 8))
+mask-octet k at p h = go (ltb k (at / 8)) (ltb (at / 8) k) refl refl
+  where
+    some : ℕ
+    some = 256 - 256 / 2 ^ (at % 8)
+
+    few : some < 256
+    few = some-small (at % 8) (omega arith)
+
+    go : (s t : Bool) → ltb k (at / 8) ≡ s → ltb (at / 8) k ≡ t
+        → bitOr (((256 + k - at / 8) / 256 + 255) % 256) (bitAnd (((255 + k - at / 8) / 256 + 255) % 256) some) ≡ 256 - 2 ^ (8 - min 8 (at - k * 8))
+    go true t e f =
+        let w = ltb-true k (at / 8) e in
+        let b : ((256 + k - at / 8) / 256 + 255) % 256 ≡ 255 = omega arith in
+        let u : ((255 + k - at / 8) / 256 + 255) % 256 ≡ 255 = omega arith in
+        let m : 8 - min 8 (at - k * 8) ≡ 0 = omega arith in
+        rw (b, u, m, ones-and some few) (omega (arith, or-add-and 255 some, ones-and some few))
+    go false true e f =
+        let w = ltb-true (at / 8) k f in
+        let b : ((256 + k - at / 8) / 256 + 255) % 256 ≡ 0 = omega arith in
+        let u : ((255 + k - at / 8) / 256 + 255) % 256 ≡ 0 = omega arith in
+        let m : 8 - min 8 (at - k * 8) ≡ 8 = omega arith in
+        rw (b, u, m, and-zero-l some) (or-zero-l 0)
+    go false false e f =
+        let w = ltb-false k (at / 8) e in
+        let v = ltb-false (at / 8) k f in
+        let b : ((256 + k - at / 8) / 256 + 255) % 256 ≡ 0 = omega arith in
+        let u : ((255 + k - at / 8) / 256 + 255) % 256 ≡ 255 = omega arith in
+        let m : min 8 (at - k * 8) ≡ at % 8 = omega arith in
+        rw (b, u, m, ones-and some few, or-zero-l some, ← some-ones (at % 8) (omega arith))
+
+pub mask-mix : (n x y : ℕ) → n ≤ 8 → x < 256 → bitOr (bitAnd x (256 - 2 ^ (8 - n))) (bitAnd y (255 - (256 - 2 ^ (8 - n)))) ≡ mix n x y
+mask-mix n x y h k =
+    let w : n + (8 - n) ≡ 8 = omega arith in
+    let p : 2 ^ (8 - n) ≤ 2 ^ 8 = pow-mono {i = 8 - n} {j = 8} (omega arith) in
+    let q = pow-pos (8 - n) in
+    let d : 255 - (256 - 2 ^ (8 - n)) ≡ 2 ^ (8 - n) - 1 = omega arith in
+    let t : x < 2 ^ (n + (8 - n)) = rw w (omega arith) in
+    let a : bitAnd x (256 - 2 ^ (8 - n)) ≡ x / 2 ^ (8 - n) * 2 ^ (8 - n) = rw (w, shr-mod n (8 - n) t) at (and-high x n (8 - n)) in
+    rw (a, d, and-mask y (8 - n)) (or-shifted (x / 2 ^ (8 - n)) (8 - n) (y % 2 ^ (8 - n)) (mod-lt y q))

@@ -1,6 +1,6 @@
 // Addresses: sixteen octets as 128 bits, bit 0 the highest.
 ghost use mathlib.Core.Path.{_≡_};
-ghost use Prim.Native.Nat.{_+_, _-_, _*_, _/_, _%_, _^_, _≤_, min};
+ghost use Prim.Native.Nat.{_+_, _-_, _*_, _/_, _%_, _^_, _<_, min};
 ghost use Rattle.address.specs.Address.{joinOf, clearTo};
 ghost use Rattle.address.specs.Order.{orderOf};
 
@@ -15,17 +15,11 @@ pub enum Order {
 pub fn join(high: [u8; 16], low: [u8; 16], at: u8) -> [u8; 16]
     ensures { λ r. ⌜ r ≡ joinOf high low at ⌝ }
 {
-    let whole = octets::wide(at / 8);
     let mut out = low;
     let mut k: usize = 0;
     while k < 16 {
-        if k < whole {
-            out[k] = high[k];
-        }
+        out[k] = octet(high[k], low[k], k, at);
         k += 1;
-    }
-    if whole < 16 {
-        out[whole] = mixed(high[whole], low[whole], octets::wide(at % 8));
     }
     out
 }
@@ -73,15 +67,27 @@ pub fn is_clear(a: &[u8], n: u8) -> bool
     true
 }
 
-// The first n bits of `high`, then those of `low` from n on, of one octet.
-fn mixed(high: u8, low: u8, n: usize) -> u8
-    requires { ⌜ n ≤ 8 ⌝ }
-    ensures { λ r. ⌜ r ≡ high / 2 ^ (8 - n) * 2 ^ (8 - n) + low % 2 ^ (8 - n) ⌝ }
+// Octet k of a join at `at`: the bits of the mask from `high`, the others from `low`.
+fn octet(high: u8, low: u8, k: usize, at: u8) -> u8
+    requires { ⌜ k < 16 ⌝ }
+    ensures { λ r. ⌜ r ≡ high / 2 ^ (8 - min 8 (at - k * 8)) * 2 ^ (8 - min 8 (at - k * 8)) + low % 2 ^ (8 - min 8 (at - k * 8)) ⌝ }
 {
-    let k = 8 - n;
-    let h = high as usize;
-    let l = low as usize;
-    (((h >> k) << k) + (l - ((l >> k) << k))) as u8
+    let m = mask(k, at);
+    (high & m) | (low & (255 - m))
+}
+
+// Octet k of the mask with ones before `at`: all ones before the octet that holds the place, some in it, none after it.
+// Reckoned without a branch, so that the sixteen octets of a join are reckoned at once.
+fn mask(k: usize, at: u8) -> u8
+    requires { ⌜ k < 16 ⌝ }
+    ensures { λ r. ⌜ r ≡ 256 - 2 ^ (8 - min 8 (at - k * 8)) ⌝ }
+{
+    let place = k as u16;
+    let whole = (at / 8) as u16;
+    let some = (256 - (256u16 >> (at % 8))) as u8;
+    let before = (((256 + place - whole) / 256 + 255) % 256) as u8;
+    let until = (((255 + place - whole) / 256 + 255) % 256) as u8;
+    before | (until & some)
 }
 
 // The lesser of two lengths.

@@ -84,6 +84,10 @@ pub standard-in : (xs : List ℕ) → wellFormed xs ≡ true → standardOf xs �
 unfolding inStandardForm
 standard-in xs w e = rw (w, e) (same-refl xs)
 
+pub malformed-not : (xs : List ℕ) → wellFormed xs ≡ false → inStandardForm xs ≡ false
+unfolding inStandardForm
+malformed-not xs w = rw w
+
 -- what a scan says of a name that fills its octets: the flag is set exactly when the name is in standard form
 pub scan-standard : (xs : List ℕ) → Small xs → wellFormed xs ≡ true → scanned (scanOf xs) .standard ≡ inStandardForm xs
 unfolding scanned finish labelsOf fills

@@ -112,6 +112,23 @@ pub fn scan(s: &[u8]) -> Scanned
     refused(11)
 }
 
+// Whether octets are a name in standard form, from end to end.
+pub fn is_standard(name: &[u8]) -> bool
+    ensures { λ r. ⌜ r ≡ inStandardForm (now (name .entry)) ⌝ }
+{
+    let t = scan(name);
+    let number = t.number;
+    let used = t.used;
+    let standard = t.standard;
+    if number != 0 {
+        return false;
+    }
+    if used != name.len() {
+        return false;
+    }
+    standard
+}
+
 // The standard form of a name as a value; none for a malformed name.
 pub fn hold(name: &[u8]) -> Name
     ensures { λ r. ⌜ r ≡ heldOf (now (name .entry)) ⌝ }

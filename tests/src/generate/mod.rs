@@ -1,6 +1,8 @@
 //! Input for the tests and benchmarks, made from fixed seeds.
 
+pub mod a6;
 pub mod names;
+pub mod plan;
 
 /// A small deterministic source of numbers (splitmix64).
 pub struct Random {
@@ -26,7 +28,7 @@ impl Random {
 
     /// A number less than `bound`.
     pub fn below(&mut self, bound: usize) -> usize {
-        ((self.number() >> 32) * bound as u64 >> 32) as usize
+        (((self.number() >> 32) * bound as u64) >> 32) as usize
     }
 
     /// A number from `least` to `most`, both included.

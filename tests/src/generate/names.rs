@@ -220,7 +220,7 @@ pub fn damage(random: &mut Random, name: &mut Name) {
         6 => octets[start] = 0,
         // Bits set after the last one of a bit label.
         7 | 8 => {
-            let uneven = |at: &usize| octets[*at] == 65 && octets[*at + 1] % 8 != 0;
+            let uneven = |at: &usize| octets[*at] == 65 && !octets[*at + 1].is_multiple_of(8);
             let labels: Vec<usize> = name.starts.iter().copied().filter(uneven).collect();
             if let Some(at) = labels.get(random.below(labels.len().max(1))) {
                 let count = octets[at + 1] as usize;

@@ -1,4 +1,6 @@
 //! An independent version of the library, one file a layer, written for speed: one pass over the input, no
 //! allocation, outputs into lent memory. It takes nothing from the library's code.
 
+pub mod a6;
 pub mod names;
+pub mod plan;

@@ -155,6 +155,40 @@ fn merge(name: &[u8], out: &mut [u8]) -> usize {
     }
 }
 
+/// Octets of a slot: a length octet and 255 for a name.
+pub const SLOT: usize = NAME + 1;
+
+/// The octets of a slot from `from` on are zero.
+#[inline(always)]
+fn clear_from(slot: &[u8; SLOT], from: usize) -> bool {
+    let (parts, _) = slot.as_chunks::<16>();
+    let first = from / 16;
+    if first == parts.len() {
+        return true;
+    }
+    let mut all = u128::from_le_bytes(parts[first]) >> (from % 16 * 8);
+    for part in &parts[first + 1..] {
+        all |= u128::from_le_bytes(*part);
+    }
+    all == 0
+}
+
+/// The name in a slot that holds one in standard form: it fills its length, and zeros come after it.
+#[inline(always)]
+pub fn in_slot(slot: &[u8; SLOT]) -> Option<&[u8]> {
+    let length = slot[0] as usize;
+    let name = &slot[1..1 + length];
+    let scan = scan(name);
+    let good = scan.number == 0 && scan.used == length && scan.standard && clear_from(slot, 1 + length);
+    good.then_some(name)
+}
+
+/// All octets of a slot are zero.
+#[inline(always)]
+pub fn is_blank(slot: &[u8; SLOT]) -> bool {
+    clear_from(slot, 0)
+}
+
 /// The answer of `a6plan_standard`: 4 for a name that is malformed or does not fill its slice, then 5 for an output
 /// not of 255 octets or figures not of two, then 0 with the standard form, zeros after it, and its length and 0.
 #[inline(never)]

@@ -1,0 +1,275 @@
+//! Plan tables: small ones good and damaged, a full realistic one, and the ones that cost most.
+
+use super::names::{self, Name};
+use super::{a6, Random};
+
+pub const RECORD: usize = 532;
+pub const MOST: usize = 1024;
+pub const OWNER: usize = 20;
+pub const TARGET: usize = 276;
+pub const A6: u8 = 38;
+pub const DNAME: u8 = 39;
+
+/// The octets of a name of ordinary labels, written with points between them.
+pub fn name(labels: &str) -> Vec<u8> {
+    let mut name = Name::new();
+    for label in labels.split('.').filter(|label| !label.is_empty()) {
+        name.label(label.as_bytes());
+    }
+    name.end();
+    name.octets
+}
+
+/// A record. The target is empty for an A6 record without one.
+pub fn record(kind: u8, length: u8, address: u128, owner: &[u8], target: &[u8]) -> [u8; RECORD] {
+    let mut record = [0; RECORD];
+    record[1] = kind;
+    record[2] = length;
+    record[4..20].copy_from_slice(&address.to_be_bytes());
+    for (slot, name) in [(OWNER, owner), (TARGET, target)] {
+        record[slot] = name.len() as u8;
+        record[slot + 1..slot + 1 + name.len()].copy_from_slice(name);
+    }
+    record
+}
+
+/// An A6 record: the address has its first `length` bits cleared.
+pub fn a6_record(owner: &[u8], length: u8, address: u128, target: &[u8]) -> [u8; RECORD] {
+    record(A6, length, address & u128::MAX.checked_shr(length as u32).unwrap_or(0), owner, target)
+}
+
+pub fn dname_record(owner: &[u8], target: &[u8]) -> [u8; RECORD] {
+    record(DNAME, 0, 0, owner, target)
+}
+
+// The full tables.
+
+/// A plan as it is used: 1,024 records, among them 60 DNAMEs; 340 sites with two or three carriers each, 24 carriers
+/// with two upstreams each, 12 upstreams, 88 hosts. Chains from a host have four records: host 64, site 48,
+/// carrier 32, upstream 0.
+pub struct Realistic {
+    pub table: Vec<u8>,
+    /// Names that own A6 records.
+    pub hosts: Vec<Vec<u8>>,
+    pub sites: Vec<Vec<u8>>,
+    pub carriers: Vec<Vec<u8>>,
+    pub upstreams: Vec<Vec<u8>>,
+    /// Addresses of the first 24 hosts that DNAMEs lead, in three rewrites, to the names of their sites.
+    pub addresses: Vec<[u8; 16]>,
+}
+
+pub const SITES: usize = 340;
+const CARRIERS: usize = 24;
+const UPSTREAMS: usize = 12;
+const HOSTS: usize = 88;
+/// Sites, and carriers, whose reverse names are handed on.
+const REVERSE: usize = 24;
+
+fn upstream_name(upstream: usize) -> String {
+    format!("IP6.UPSTREAM-{upstream}.NET")
+}
+
+fn carrier_name(carrier: usize) -> String {
+    format!("IP6.CARRIER-{carrier}.NET")
+}
+
+fn site_name(site: usize) -> String {
+    format!("IP6.SITE-{site}.EXAMPLE")
+}
+
+/// The upstreams of a carrier and the carriers of a site.
+fn upstreams_of(carrier: usize) -> [usize; 2] {
+    [carrier % UPSTREAMS, (carrier + 5) % UPSTREAMS]
+}
+
+fn carriers_of(site: usize) -> Vec<usize> {
+    let carriers = [site % CARRIERS, (site + 7) % CARRIERS, (site + 13) % CARRIERS];
+    carriers[..if site % 5 < 2 { 3 } else { 2 }].to_vec()
+}
+
+/// The part of the address that each adds.
+fn upstream_bits(upstream: usize) -> u128 {
+    (0x2001_0d00 + upstream as u128) << 96
+}
+
+fn carrier_bits(carrier: usize) -> u128 {
+    (0x4100 + carrier as u128) << 80
+}
+
+fn site_bits(site: usize) -> u128 {
+    (0x0100 + site as u128) << 64
+}
+
+fn host_bits(host: usize) -> u128 {
+    0x0a00_20ff_fe81_0000 + host as u128
+}
+
+/// A name of one bit label and the labels above it.
+fn bits_under(count: usize, bits: u128, above: &str) -> Vec<u8> {
+    let mut octets = Name::new();
+    octets.bits(count, &bits.to_be_bytes());
+    [octets.octets, name(above)].concat()
+}
+
+pub fn realistic() -> Realistic {
+    let mut table = Vec::with_capacity(MOST * RECORD);
+    let mut addresses = Vec::new();
+    let host_name = |host: usize| name(&format!("H{}.SITE-{host}.EXAMPLE", host + 1));
+    for upstream in 0..UPSTREAMS {
+        let owner = upstream_name(upstream);
+        table.extend(a6_record(&name(&owner), 0, upstream_bits(upstream), &[]));
+        table.extend(dname_record(&bits_under(32, upstream_bits(upstream), "IP6.ARPA"), &name(&owner)));
+    }
+    for carrier in 0..CARRIERS {
+        let owner = carrier_name(carrier);
+        for upstream in upstreams_of(carrier) {
+            table.extend(a6_record(&name(&owner), 32, carrier_bits(carrier), &name(&upstream_name(upstream))));
+        }
+        let above = upstream_name(upstreams_of(carrier)[0]);
+        table.extend(dname_record(&bits_under(16, carrier_bits(carrier) << 32, &above), &name(&owner)));
+    }
+    for site in 0..SITES {
+        let owner = site_name(site);
+        for carrier in carriers_of(site) {
+            table.extend(a6_record(&name(&owner), 48, site_bits(site), &name(&carrier_name(carrier))));
+        }
+        if site < HOSTS {
+            table.extend(a6_record(&host_name(site), 64, host_bits(site), &name(&owner)));
+        }
+        if site < REVERSE {
+            let carrier = carriers_of(site)[0];
+            table.extend(dname_record(&bits_under(16, site_bits(site) << 48, &carrier_name(carrier)), &name(&owner)));
+            let upstream = upstreams_of(carrier)[0];
+            let address = upstream_bits(upstream) | carrier_bits(carrier) | site_bits(site) | host_bits(site);
+            addresses.push(address.to_be_bytes());
+        }
+    }
+    Realistic {
+        table,
+        hosts: (0..HOSTS).map(host_name).collect(),
+        sites: (0..SITES).map(|site| name(&site_name(site))).collect(),
+        carriers: (0..CARRIERS).map(|carrier| name(&carrier_name(carrier))).collect(),
+        upstreams: (0..UPSTREAMS).map(|upstream| name(&upstream_name(upstream))).collect(),
+        addresses,
+    }
+}
+
+/// A name of 255 octets in labels of at most `longest` octets, and the places of the octets inside its labels.
+pub fn full_name(longest: usize, filling: u8) -> (Vec<u8>, Vec<usize>) {
+    let (mut octets, mut places) = (Vec::new(), Vec::new());
+    while octets.len() < 254 {
+        let left = 254 - octets.len();
+        let size = if left == longest + 2 { longest } else { left.min(longest + 1) };
+        octets.push(size as u8 - 1);
+        places.extend(octets.len()..octets.len() + size - 1);
+        octets.resize(octets.len() + size - 1, filling);
+    }
+    octets.push(0);
+    (octets, places)
+}
+
+/// 1,024 DNAMEs whose owners have 255 octets and share all but the last two inside a label. Their targets have 255
+/// octets too. Labels have at most `longest` octets: 63 makes few of them, 1 makes 127.
+pub fn worst(longest: usize) -> Vec<u8> {
+    let (mut owner, places) = full_name(longest, b'o');
+    let (target, _) = full_name(longest, b't');
+    let [.., high, low] = places[..] else { panic!("a full name has two octets in labels") };
+    let mut table = Vec::with_capacity(MOST * RECORD);
+    for index in 0..MOST {
+        owner[high] = b'A' + (index / 32) as u8;
+        owner[low] = b'A' + (index % 32) as u8;
+        table.extend(dname_record(&owner, &target));
+    }
+    table
+}
+
+// Small tables.
+
+/// Names that make neighbours alike: equal ones come up, and ones that differ in a little.
+const ALIKE: [&str; 12] = ["", "a", "b", "A", "a.a", "a.b", "ab", "b.a", "aa", "p.a", "q.a", "a.a.a.a.a.a.a.a.b"];
+
+/// The octets of some name in standard form, from the few alike ones or any.
+fn some_name(random: &mut Random, made: &mut Name) -> Vec<u8> {
+    if random.once_in(3) {
+        names::standard(random, made);
+        made.octets.clone()
+    } else if random.once_in(4) {
+        bits_under(random.pick(&[1, 7, 8]), random.pick(&[0, 1]) << 127, random.pick(&ALIKE))
+    } else {
+        name(random.pick(&ALIKE))
+    }
+}
+
+/// A record that keeps the layout.
+pub fn good_record(random: &mut Random, made: &mut Name) -> [u8; RECORD] {
+    let owner = some_name(random, made);
+    let target = some_name(random, made);
+    if random.once_in(2) {
+        return dname_record(&owner, &target);
+    }
+    let length = a6::length(random);
+    let address = (random.number() as u128) << 64 | random.number() as u128;
+    a6_record(&owner, length, address, if length == 0 { &[] } else { &target })
+}
+
+/// A table of `records` records that keep the layout; some share their owners.
+pub fn good_table(random: &mut Random, made: &mut Name, records: usize, table: &mut Vec<u8>) {
+    table.clear();
+    for _ in 0..records {
+        let record = if table.len() >= RECORD && random.once_in(5) {
+            let other = random.below(table.len() / RECORD);
+            table[other * RECORD..(other + 1) * RECORD].try_into().expect("a record")
+        } else {
+            good_record(random, made)
+        };
+        table.extend(record);
+    }
+}
+
+/// A small table, good or damaged in some way.
+pub fn any_table(random: &mut Random, made: &mut Name, table: &mut Vec<u8>) {
+    let records = random.pick(&[0, 1, 1, 1, 2, 2, 2, 2, 3, 3, 4, 6]);
+    good_table(random, made, records, table);
+    if random.once_in(3) {
+        return;
+    }
+    if random.once_in(16) {
+        match random.below(3) {
+            0 => table.truncate(random.below(table.len() + 1)),
+            1 => table.extend((0..random.between(1, 40)).map(|_| 0)),
+            _ => table.extend([0; RECORD - 1]),
+        }
+    }
+    if let Some(record) = table.chunks_exact_mut(RECORD).nth(random.below(records.max(1))) {
+        damage(random, made, record);
+    }
+}
+
+/// Damages one field of a record. What comes of it may happen to keep the layout.
+pub fn damage(random: &mut Random, made: &mut Name, record: &mut [u8]) {
+    let slot = random.pick(&[OWNER, TARGET]);
+    let named = record[slot] as usize;
+    let length = record[2] as usize;
+    match random.below(16) {
+        0 => record[random.below(2)] = random.octet(),
+        1 => record[1] = A6 + DNAME - record[1],
+        2 => record[2] = random.octet(),
+        3 => record[2] = a6::length(random),
+        4 => record[3] = random.between(1, 255) as u8,
+        5 => record[4 + random.below(16)] |= 1 << random.below(8),
+        6 if length > 0 => record[4 + (length - 1) / 8] |= 128 >> ((length - 1) % 8),
+        7 => record[slot] = record[slot].wrapping_add(random.pick(&[1, 255])),
+        8 => record[slot] = random.octet(),
+        9 if named < 255 => record[slot + 1 + random.between(named, 254)] = random.between(1, 255) as u8,
+        10 => record[slot..slot + 256].fill(0),
+        11..=14 => {
+            // Any octets as the name: malformed, not in standard form, or good.
+            names::any(random, made);
+            let fits = made.octets.len().min(255);
+            record[slot..slot + 256].fill(0);
+            record[slot] = fits as u8;
+            record[slot + 1..slot + 1 + fits].copy_from_slice(&made.octets[..fits]);
+        }
+        _ => record[random.below(RECORD)] = random.octet(),
+    }
+}

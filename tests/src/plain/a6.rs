@@ -1,0 +1,110 @@
+//! A6 data (01, A6 data) bit by bit.
+
+use super::names::{self, Unit};
+
+/// What A6 data holds: the prefix length, 128 bits of which the first are zero, and the prefix name's units.
+#[derive(Clone, Debug, PartialEq)]
+pub struct Value {
+    pub length: u8,
+    pub address: Vec<bool>,
+    pub name: Option<Vec<Unit>>,
+}
+
+fn bits(octets: &[u8]) -> Vec<bool> {
+    octets.iter().flat_map(|octet| (0..8).map(move |bit| octet >> (7 - bit) & 1 == 1)).collect()
+}
+
+fn octets(bits: &[bool]) -> Vec<u8> {
+    bits.chunks(8).map(|eight| eight.iter().fold(0, |octet, bit| octet << 1 | *bit as u8)).collect()
+}
+
+/// Reads left to right.
+pub fn read(data: &[u8]) -> Result<Value, u32> {
+    let Some((length, rest)) = data.split_first() else { return Err(11) };
+    if *length > 128 {
+        return Err(10);
+    }
+    let prefix = *length as usize;
+    let suffix = 16 - prefix / 8;
+    if rest.len() < suffix {
+        return Err(11);
+    }
+    let mut address = vec![false; prefix];
+    address.extend(bits(&rest[..suffix]).iter().skip(prefix % 8));
+    let rest = &rest[suffix..];
+    let (name, used) = if prefix == 0 {
+        (None, 0)
+    } else {
+        let (units, used) = names::read(rest).map_err(|why| why.number())?;
+        (Some(units), used)
+    };
+    if used < rest.len() {
+        return Err(13);
+    }
+    Ok(Value { length: *length, address, name })
+}
+
+/// The data of a value in standard form: padding zero, bit labels merged.
+pub fn data(value: &Value) -> Vec<u8> {
+    let prefix = value.length as usize;
+    let mut data = vec![value.length];
+    data.extend(octets(&value.address[prefix / 8 * 8..]));
+    if let Some(units) = &value.name {
+        data.extend(names::encode(units));
+    }
+    data
+}
+
+/// The 273 octets of a value.
+pub fn held(value: &Value) -> Vec<u8> {
+    let mut held = vec![value.length];
+    held.extend(octets(&value.address));
+    let name = value.name.as_ref().map_or(vec![], |units| names::encode(units));
+    held.push(name.len() as u8);
+    held.extend(name);
+    held.resize(273, 0);
+    held
+}
+
+/// The value that 273 octets hold, if they hold one that reading can give; else 10 or 12.
+pub fn hold(held: &[u8]) -> Result<Value, u32> {
+    if held[0] > 128 {
+        return Err(10);
+    }
+    let name = names::whole(&held[18..18 + held[17] as usize]);
+    let value = Value { length: held[0], address: bits(&held[1..17]), name };
+    let clear = !value.address[..held[0] as usize].contains(&true);
+    if clear && value.name.is_some() == (held[0] > 0) && self::held(&value) == held {
+        Ok(value)
+    } else {
+        Err(12)
+    }
+}
+
+/// The answer of `a6plan_read` for a value of this many octets.
+pub fn read_answer(data: &[u8], value: usize) -> (u32, Vec<u8>) {
+    if value != 273 {
+        return (5, vec![0; value]);
+    }
+    match read(data) {
+        Ok(read) => (0, held(&read)),
+        Err(number) => (number, vec![0; 273]),
+    }
+}
+
+/// The answer of `a6plan_write` for an output and figures of these lengths.
+pub fn write_answer(value: &[u8], out: usize, figures: usize) -> (u32, Vec<u8>, Vec<u32>) {
+    let refusal = |number| (number, vec![0; out], vec![0; figures]);
+    if value.len() != 273 || figures != 2 {
+        return refusal(5);
+    }
+    match hold(value).map(|value| data(&value)) {
+        Err(number) => refusal(number),
+        Ok(data) if data.len() > out => refusal(7),
+        Ok(mut data) => {
+            let written = data.len() as u32;
+            data.resize(out, 0);
+            (0, data, vec![written, 0])
+        }
+    }
+}

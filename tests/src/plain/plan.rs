@@ -1,0 +1,83 @@
+//! The plan table (01, The plan table), field by field and by pairs.
+
+use super::names::{self, Unit};
+
+/// The fields of a record in the order in which they are judged.
+#[derive(Clone, Copy, Debug, PartialEq)]
+pub enum Field {
+    Type,
+    Length,
+    Zero,
+    Address,
+    Owner,
+    Target,
+}
+
+/// The units of the name in a slot: a name in standard form that fills its length, zeros after it.
+pub fn name_in(slot: &[u8]) -> Option<Vec<Unit>> {
+    let length = slot[0] as usize;
+    let units = names::whole(&slot[1..1 + length])?;
+    let mut standard = names::encode(&units);
+    standard.resize(255, 0);
+    (standard == slot[1..]).then_some(units)
+}
+
+/// The first field of a record that breaks the layout.
+pub fn fault(record: &[u8]) -> Option<Field> {
+    let dname = record[1] == 39;
+    let length = record[2] as usize;
+    if record[0] != 0 || record[1] != 38 && !dname {
+        return Some(Field::Type);
+    }
+    if length > 128 || dname && length != 0 {
+        return Some(Field::Length);
+    }
+    if record[3] != 0 {
+        return Some(Field::Zero);
+    }
+    let zeros = if dname { 128 } else { length };
+    if (0..zeros).any(|bit| record[4 + bit / 8] & 128 >> (bit % 8) != 0) {
+        return Some(Field::Address);
+    }
+    if name_in(&record[20..276]).is_none() {
+        return Some(Field::Owner);
+    }
+    let target = &record[276..532];
+    let good = if !dname && length == 0 { target == [0; 256] } else { name_in(target).is_some() };
+    if good {
+        None
+    } else {
+        Some(Field::Target)
+    }
+}
+
+/// The answer of `a6plan_check`.
+pub fn check(table: &[u8]) -> u32 {
+    if !table.len().is_multiple_of(532) || table.len() / 532 > 1024 {
+        return 1;
+    }
+    let records: Vec<&[u8]> = table.chunks(532).collect();
+    if records.iter().any(|record| fault(record).is_some()) {
+        return 2;
+    }
+    let owners: Vec<Option<Vec<Unit>>> =
+        records.iter().filter(|record| record[1] == 39).map(|record| name_in(&record[20..276])).collect();
+    for (index, owner) in owners.iter().enumerate() {
+        if owners[..index].contains(owner) {
+            return 3;
+        }
+    }
+    0
+}
+
+/// The answer of `a6plan_owner` for figures of this length.
+pub fn owner(table: &[u8], index: usize, figures: usize) -> (u32, Vec<u32>) {
+    if figures != 2 {
+        return (5, vec![0; figures]);
+    }
+    if check(table) != 0 || index >= table.len() / 532 {
+        return (0, vec![0, 0]);
+    }
+    let offset = index * 532 + 21;
+    (0, vec![offset as u32, table[offset - 1] as u32])
+}
