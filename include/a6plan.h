@@ -26,6 +26,65 @@ uint32_t a6plan_standard(const uint8_t *name, size_t name_length,
                          uint8_t *out, size_t out_length,
                          uint32_t *figures, size_t figures_length);
 
+/*
+ * The value that A6 data stands for, in 273 octets: prefix length, sixteen address octets, name length, 255 name octets.
+ * 10: prefix length over 128. 11: the data ends too soon. 12: the name is malformed. 13: octets are left over.
+ * 5, before everything else: the value slice is not of 273 octets.
+ */
+uint32_t a6plan_read(const uint8_t *data, size_t data_length,
+                     uint8_t *value, size_t value_length);
+
+/*
+ * The A6 data of a value of 273 octets, then zeros. figures: the octets written, and 0.
+ * 10: prefix length over 128. 12: not a value that reading can give. 7: the output is too short.
+ * 5, before everything else: the value slice is not of 273 octets, or the figures are not two.
+ */
+uint32_t a6plan_write(const uint8_t *value, size_t value_length,
+                      uint8_t *out, size_t out_length,
+                      uint32_t *figures, size_t figures_length);
+
+/* Whether a table is in order: 0; 1: its length; 2: some record; 3: two DNAMEs with one owner. */
+uint32_t a6plan_check(const uint8_t *table, size_t table_length);
+
+/*
+ * The part of the table that the owner of a record takes, without the length octet.
+ * figures: where it starts and its length; 0 and 0 for an index that is no record's and for a table that is not in order.
+ * 5: the figures are not two.
+ */
+uint32_t a6plan_owner(const uint8_t *table, size_t table_length, size_t index,
+                      uint32_t *figures, size_t figures_length);
+
+/*
+ * The addresses of a name in ascending order, each once, sixteen octets each, then zeros. figures: how many, and the work.
+ * 1, 2, 3: the table. 4: the name is malformed. 5: the output is no multiple of 16 octets. 6: the work is more than the limit.
+ * 7: there are more addresses than room.
+ */
+uint32_t a6plan_lookup(const uint8_t *table, size_t table_length,
+                       const uint8_t *name, size_t name_length, uint32_t limit,
+                       uint8_t *out, size_t out_length,
+                       uint32_t *figures, size_t figures_length);
+
+/*
+ * The name where the rewriting of an address's reverse name by DNAMEs ends, then zeros. figures: its length, and the rewrites.
+ * 1, 2, 3: the table. 4: the address is not of sixteen octets. 5: the output is not of 255 octets.
+ * 6: a rewrite is due and none is left of the limit. 8: a rewrite gives a name that is too large.
+ */
+uint32_t a6plan_reverse(const uint8_t *table, size_t table_length,
+                        const uint8_t *address, size_t address_length, uint8_t limit,
+                        uint8_t *out, size_t out_length,
+                        uint32_t *figures, size_t figures_length);
+
+/*
+ * The table in which each unfinished A6 record of a name is replaced by what it makes with the records of its target, then
+ * zeros. figures: how many records, and 0. Every name keeps its addresses.
+ * 1, 2, 3: the table. 4: the name is malformed. 5: the output is no multiple of 532 octets.
+ * 9: an ignored record could come back. 7: the new table has more records than the output has room for, or than 1,024.
+ */
+uint32_t a6plan_collapse(const uint8_t *table, size_t table_length,
+                         const uint8_t *name, size_t name_length,
+                         uint8_t *out, size_t out_length,
+                         uint32_t *figures, size_t figures_length);
+
 #ifdef __cplusplus
 }
 #endif

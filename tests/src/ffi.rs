@@ -36,6 +36,50 @@ extern "C" {
     ) -> u32;
 }
 
+#[cfg(feature = "forward")]
+extern "C" {
+    fn a6plan_lookup(
+        table: *const u8,
+        table_length: usize,
+        name: *const u8,
+        name_length: usize,
+        limit: u32,
+        out: *mut u8,
+        out_length: usize,
+        figures: *mut u32,
+        figures_length: usize,
+    ) -> u32;
+}
+
+#[cfg(feature = "reverse")]
+extern "C" {
+    fn a6plan_reverse(
+        table: *const u8,
+        table_length: usize,
+        address: *const u8,
+        address_length: usize,
+        limit: u8,
+        out: *mut u8,
+        out_length: usize,
+        figures: *mut u32,
+        figures_length: usize,
+    ) -> u32;
+}
+
+#[cfg(feature = "collapse")]
+extern "C" {
+    fn a6plan_collapse(
+        table: *const u8,
+        table_length: usize,
+        name: *const u8,
+        name_length: usize,
+        out: *mut u8,
+        out_length: usize,
+        figures: *mut u32,
+        figures_length: usize,
+    ) -> u32;
+}
+
 /// The standard form of `name` in `out`; figures: its length and 0.
 pub fn standard(name: &[u8], out: &mut [u8], figures: &mut [u32]) -> u32 {
     // SAFETY: each pointer and length come from one live slice, and the written ones are lent mutably.
@@ -72,4 +116,60 @@ pub fn check(table: &[u8]) -> u32 {
 pub fn owner(table: &[u8], index: usize, figures: &mut [u32]) -> u32 {
     // SAFETY: each pointer and length come from one live slice, and the written one is lent mutably.
     unsafe { a6plan_owner(table.as_ptr(), table.len(), index, figures.as_mut_ptr(), figures.len()) }
+}
+
+/// The addresses of `name` in `out` if the work is at most `limit`; figures: their count and the work.
+#[cfg(feature = "forward")]
+pub fn lookup(table: &[u8], name: &[u8], limit: u32, out: &mut [u8], figures: &mut [u32]) -> u32 {
+    // SAFETY: each pointer and length come from one live slice, and the written ones are lent mutably.
+    unsafe {
+        a6plan_lookup(
+            table.as_ptr(),
+            table.len(),
+            name.as_ptr(),
+            name.len(),
+            limit,
+            out.as_mut_ptr(),
+            out.len(),
+            figures.as_mut_ptr(),
+            figures.len(),
+        )
+    }
+}
+
+/// The name that `address` leads to in `out`, by at most `limit` rewrites; figures: its length and the rewrites.
+#[cfg(feature = "reverse")]
+pub fn reverse(table: &[u8], address: &[u8], limit: u8, out: &mut [u8], figures: &mut [u32]) -> u32 {
+    // SAFETY: each pointer and length come from one live slice, and the written ones are lent mutably.
+    unsafe {
+        a6plan_reverse(
+            table.as_ptr(),
+            table.len(),
+            address.as_ptr(),
+            address.len(),
+            limit,
+            out.as_mut_ptr(),
+            out.len(),
+            figures.as_mut_ptr(),
+            figures.len(),
+        )
+    }
+}
+
+/// The table in which `name` is collapsed in `out`; figures: its records and 0.
+#[cfg(feature = "collapse")]
+pub fn collapse(table: &[u8], name: &[u8], out: &mut [u8], figures: &mut [u32]) -> u32 {
+    // SAFETY: each pointer and length come from one live slice, and the written ones are lent mutably.
+    unsafe {
+        a6plan_collapse(
+            table.as_ptr(),
+            table.len(),
+            name.as_ptr(),
+            name.len(),
+            out.as_mut_ptr(),
+            out.len(),
+            figures.as_mut_ptr(),
+            figures.len(),
+        )
+    }
 }

@@ -10,4 +10,7 @@ pub mod generate;
 pub mod lent;
 pub mod plain;
 pub mod reference;
+#[cfg(feature = "soak")]
+pub mod soak;
+pub mod text;
 pub mod vectors;

@@ -4,6 +4,8 @@ pub const BITLABEL_MERGE: &str = include_str!("../data/bitlabel_merge.tsv");
 pub const BITLABEL_NAMES: &str = include_str!("../data/bitlabel_names.tsv");
 pub const A6_WIRE_READ: &str = include_str!("../data/a6_wire_read.tsv");
 pub const A6_TEXT_WIRE: &str = include_str!("../data/a6_text_wire.tsv");
+pub const DNAME_REWRITE: &str = include_str!("../data/dname_rewrite.tsv");
+pub const DNAME_BITS: &str = include_str!("../data/dname_bits.tsv");
 
 /// The rows below the header, each as its columns.
 pub fn rows(file: &str) -> Vec<Vec<&str>> {

@@ -6,7 +6,7 @@ use a6plan_tests::generate::Random;
 use a6plan_tests::lent::{self, Pair};
 use a6plan_tests::plain::a6 as plain;
 use a6plan_tests::reference::a6 as reference;
-use a6plan_tests::{ffi, vectors};
+use a6plan_tests::{ffi, text, vectors};
 use std::net::Ipv6Addr;
 
 /// Octets of a value.
@@ -97,40 +97,12 @@ fn data_with(length: u8, name: &[u8]) -> Vec<u8> {
 
 // The vectors.
 
-/// The octets of a name as BIND prints it.
-fn from_text(text: &str) -> Vec<u8> {
-    let mut name = Name::new();
-    let mut label = Vec::new();
-    let mut letters = text.bytes();
-    while let Some(letter) = letters.next() {
-        match letter {
-            b'.' if label.is_empty() => assert_eq!(text, "."),
-            b'.' => {
-                name.label(&label);
-                label.clear();
-            }
-            b'\\' => {
-                let next = letters.next().expect("something after a backslash");
-                if next.is_ascii_digit() {
-                    let digits = [next, letters.next().expect("a digit"), letters.next().expect("a digit")];
-                    label.push(std::str::from_utf8(&digits).unwrap().parse().expect("an octet"));
-                } else {
-                    label.push(next);
-                }
-            }
-            _ => label.push(letter),
-        }
-    }
-    name.end();
-    name.octets
-}
-
 /// The value that BIND's text shows: prefix length, address (none at 128), name (none at 0).
 fn value_from_text(text: &str) -> Vec<u8> {
     let columns: Vec<&str> = text.split(' ').collect();
     let length: u8 = columns[0].parse().expect("a prefix length");
     let address = if columns[1].is_empty() { Ipv6Addr::UNSPECIFIED } else { columns[1].parse().expect("an address") };
-    let name = columns.get(2).map_or(vec![], |name| from_text(name));
+    let name = columns.get(2).map_or(vec![], |name| text::name(name));
     assert_eq!(name.is_empty(), length == 0);
     let mut value = vec![length];
     value.extend(address.octets());

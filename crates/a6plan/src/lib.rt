@@ -3,7 +3,17 @@ ghost use mathlib.Core.Path.{_≡_};
 ghost use lib.ListN.{length};
 ghost use Rattle.octets.specs.Octets.{blank};
 ghost use Rattle.names.specs.Answers.{standardAnswer, standardOut};
-ghost use Rattle.a6plan.specs.Exports.{exportedNumber, exportedFigures, exportedOut};
+ghost use Rattle.a6.specs.Read.{readOf};
+ghost use Rattle.a6.specs.Write.{writeAnswer, writeOut};
+ghost use Rattle.plan.specs.Check.{checkOf};
+ghost use Rattle.plan.specs.Part.{ownerPart};
+ghost use Rattle.forward.specs.Lookup.{lookupAnswer, lookupOut};
+ghost use Rattle.reverse.specs.Answers.{reverseAnswer, reverseOut};
+ghost use Rattle.collapse.specs.Collapse.{collapseAnswer, collapseOut};
+ghost use Rattle.a6plan.specs.Exports.{partAnswer, valueSize, valueOctets, valueIn, exportedReadNumber, exportedValue, exportedWriteNumber, exportedWriteOut, exportedNumber, exportedFigures, exportedOut};
+
+// The octets of an A6 value at this interface.
+const VALUE: usize = 273;
 
 // The standard form of a name in a 255-octet output; figures: its length and 0.
 #[no_mangle]
@@ -18,6 +28,166 @@ pub extern "C" fn a6plan_standard(name: &[u8], out: &mut [u8], figures: &mut [u3
         octets::clear(out);
     }
     number
+}
+
+// The value that A6 data stands for, in 273 octets; all zero on a refusal.
+#[no_mangle]
+pub extern "C" fn a6plan_read(rdata: &[u8], value: &mut [u8]) -> u32
+    ensures number { λ r. ⌜ r ≡ exportedReadNumber (length (now (value .entry))) (readOf (now (rdata .entry))) ⌝ }
+    ensures valued { λ _. ⌜ now (value .exit) ≡ exportedValue (length (now (value .entry))) (readOf (now (rdata .entry))) ⌝ }
+{
+    if value.len() != VALUE {
+        octets::clear(value);
+        return 5;
+    }
+    let reading = a6::read(rdata);
+    let number = reading.number;
+    let found = reading.value;
+    put_value(found, value);
+    number as u32
+}
+
+// The A6 data of a value of 273 octets, with zeros after it; figures: the octets written and 0.
+#[no_mangle]
+pub extern "C" fn a6plan_write(value: &[u8], out: &mut [u8], figures: &mut [u32]) -> u32
+    ensures number { λ r. ⌜ r ≡ exportedWriteNumber (length (now (value .entry))) (length (now (figures .entry))) (writeAnswer (valueIn (now (value .entry))) (length (now (out .entry)))) ⌝ }
+    ensures output { λ _. ⌜ now (out .exit) ≡ exportedWriteOut (length (now (value .entry))) (length (now (figures .entry))) (writeOut (valueIn (now (value .entry))) (length (now (out .entry)))) (length (now (out .entry))) ⌝ }
+    ensures figured { λ r. ⌜ now (figures .exit) ≡ exportedFigures r (writeAnswer (valueIn (now (value .entry))) (length (now (out .entry)))) (length (now (figures .entry))) ⌝ }
+{
+    if value.len() != VALUE {
+        octets::clear(out);
+        clear_figures(figures);
+        return 5;
+    }
+    if figures.len() != 2 {
+        octets::clear(out);
+        clear_figures(figures);
+        return 5;
+    }
+    let answer = a6::write(take_value(value), out);
+    report(answer, figures)
+}
+
+// Whether a table is in order: 0, or 1, 2 or 3.
+#[no_mangle]
+pub extern "C" fn a6plan_check(table: &[u8]) -> u32
+    ensures { λ r. ⌜ r ≡ checkOf (now (table .entry)) ⌝ }
+{
+    let answer = plan::check(table);
+    answer.number as u32
+}
+
+// The part of the table that the owner of a record takes; figures: where it starts and its length, both 0 for the empty part.
+#[no_mangle]
+pub extern "C" fn a6plan_owner(table: &[u8], index: usize, figures: &mut [u32]) -> u32
+    ensures number { λ r. ⌜ r ≡ exportedNumber (length (now (figures .entry))) 0 ⌝ }
+    ensures figured { λ r. ⌜ now (figures .exit) ≡ exportedFigures r (partAnswer (ownerPart (now (table .entry)) index)) (length (now (figures .entry))) ⌝ }
+{
+    let part = plan::owner_part(table, index);
+    let offset = part.offset as u32;
+    let length = part.length as u32;
+    let answer = octets::Answer {
+        number: 0,
+        count: offset,
+        work: length,
+    };
+    report(answer, figures)
+}
+
+// The addresses of a name in ascending order, sixteen octets each, then zeros; figures: their count and the work.
+#[no_mangle]
+pub extern "C" fn a6plan_lookup(
+    table: &[u8],
+    name: &[u8],
+    limit: u32,
+    out: &mut [u8],
+    figures: &mut [u32],
+) -> u32
+    ensures number { λ r. ⌜ r ≡ exportedNumber (length (now (figures .entry))) (lookupAnswer (now (table .entry)) (now (name .entry)) limit (length (now (out .entry))) .number) ⌝ }
+    ensures output { λ r. ⌜ now (out .exit) ≡ exportedOut r (lookupOut (now (table .entry)) (now (name .entry)) limit (length (now (out .entry)))) ⌝ }
+    ensures figured { λ r. ⌜ now (figures .exit) ≡ exportedFigures r (lookupAnswer (now (table .entry)) (now (name .entry)) limit (length (now (out .entry)))) (length (now (figures .entry))) ⌝ }
+{
+    let answer = forward::lookup(table, name, limit, out);
+    let number = report(answer, figures);
+    if number != 0 {
+        octets::clear(out);
+    }
+    number
+}
+
+// The name where the rewriting of an address's reverse name ends, then zeros; figures: its length and the number of rewrites.
+#[no_mangle]
+pub extern "C" fn a6plan_reverse(
+    table: &[u8],
+    address: &[u8],
+    limit: u8,
+    out: &mut [u8],
+    figures: &mut [u32],
+) -> u32
+    ensures number { λ r. ⌜ r ≡ exportedNumber (length (now (figures .entry))) (reverseAnswer (now (table .entry)) (now (address .entry)) limit (length (now (out .entry))) .number) ⌝ }
+    ensures output { λ r. ⌜ now (out .exit) ≡ exportedOut r (reverseOut (now (table .entry)) (now (address .entry)) limit (length (now (out .entry)))) ⌝ }
+    ensures figured { λ r. ⌜ now (figures .exit) ≡ exportedFigures r (reverseAnswer (now (table .entry)) (now (address .entry)) limit (length (now (out .entry)))) (length (now (figures .entry))) ⌝ }
+{
+    let answer = reverse::lookup(table, address, limit, out);
+    let number = report(answer, figures);
+    if number != 0 {
+        octets::clear(out);
+    }
+    number
+}
+
+// The table with a name folded into its records, then zeros; figures: how many records, and 0.
+#[no_mangle]
+pub extern "C" fn a6plan_collapse(
+    table: &[u8],
+    name: &[u8],
+    out: &mut [u8],
+    figures: &mut [u32],
+) -> u32
+    ensures number { λ r. ⌜ r ≡ exportedNumber (length (now (figures .entry))) (collapseAnswer (now (table .entry)) (now (name .entry)) (length (now (out .entry))) .number) ⌝ }
+    ensures output { λ r. ⌜ now (out .exit) ≡ exportedOut r (collapseOut (now (table .entry)) (now (name .entry)) (length (now (out .entry)))) ⌝ }
+    ensures figured { λ r. ⌜ now (figures .exit) ≡ exportedFigures r (collapseAnswer (now (table .entry)) (now (name .entry)) (length (now (out .entry)))) (length (now (figures .entry))) ⌝ }
+{
+    let answer = collapse::collapse(table, name, out);
+    let number = report(answer, figures);
+    if number != 0 {
+        octets::clear(out);
+    }
+    number
+}
+
+// A value in 273 octets.
+fn put_value(value: a6::Value, out: &mut [u8])
+    requires { ⌜ length (now out) ≡ valueSize ⌝ }
+    ensures { λ _. ⌜ now (out .exit) ≡ valueOctets value ⌝ }
+{
+    let address = value.address;
+    let name = value.name;
+    let octets = name.octets;
+    out[0] = value.prefix;
+    octets::inside::copy(&address, 0, 16, out, 1);
+    out[17] = name.length;
+    octets::inside::copy(&octets, 0, 255, out, 18);
+}
+
+// The value of 273 octets.
+fn take_value(value: &[u8]) -> a6::Value
+    requires { ⌜ length (now value) ≡ valueSize ⌝ }
+    ensures { λ r. ⌜ r ≡ valueIn (now (value .entry)) ⌝ }
+{
+    let mut address = [0u8; 16];
+    octets::inside::copy(value, 1, 16, &mut address, 0);
+    let mut octets = [0u8; 255];
+    octets::inside::copy(value, 18, 255, &mut octets, 0);
+    let name = names::Name {
+        octets,
+        length: value[17],
+    };
+    a6::Value {
+        prefix: value[0],
+        address,
+        name,
+    }
 }
 
 // The figures of an answer, and its number at this interface.

@@ -12,7 +12,7 @@ use borrow.Author.Tests.{leb-true, leb-false}
 use Rattle.address.specs.Address.{bitAt}
 use Rattle.address.proofs.AddressLaws.{join-bit-high, join-bit-low}
 use Rattle.chains.specs.Lists.{pick}
-use Rattle.chains.specs.Graph.{Graph, Sound}
+use Rattle.chains.specs.Graph.{Graph}
 use Rattle.chains.specs.Chain.{Starts, Follows, Linked, Spells, lastLength, speltBit, spelt}
 use Rattle.chains.specs.Folding.{Copied, Joined, Unfinished, Quiet, Folded}
 use Rattle.chains.proofs.ChainLaws.{spelt-own, spelt-later, spelt-same}
@@ -23,15 +23,15 @@ module _ {N : Type 0} (g h : Graph N) where
   unfolding speltBit
   copied-bits i j c p q k e = let l = c .length in let a = c .bits in λ t. pick (leb (l t) k) (bitAt (a t) k) (e t)
 
-  module _ (sound : Sound g) (r i j : ℕ) (inside : r < g .size) (next : Follows g r i) (m : Joined g h r i j) where
+  module _ (sixteen : (i : ℕ) → i < g .size → length (g .addr i) ≡ 16) (r i j : ℕ) (inside : r < g .size) (next : Follows g r i) (m : Joined g h r i j) where
     joined-bits : (p q : List ℕ) (k : ℕ) → speltBit h q k ≡ speltBit g p k → speltBit h (j ∷ q) k ≡ speltBit g (r ∷ i ∷ p) k
     joined-bits p q k e = go (leb (g .len r) k) refl (leb (g .len i) k) refl
       where
         li : length (g .addr i) ≡ 16
-        li = sound .sixteen i (next .1 .0)
+        li = sixteen i (next .1 .0)
 
         lr : length (g .addr r) ≡ 16
-        lr = sound .sixteen r inside
+        lr = sixteen r inside
 
         go : (s : Bool) → leb (g .len r) k ≡ s → (t : Bool) → leb (g .len i) k ≡ t → speltBit h (j ∷ q) k ≡ speltBit g (r ∷ i ∷ p) k
         go true u t v =
@@ -83,7 +83,7 @@ module _ {N : Type 0} (g h : Graph N) where
   unfolding lastLength
   found-spells n c a e f = (f .first ∷ f .tail, (f .starts, f .linked), f .ends, spelt-same h g (f .first ∷ f .tail) c (f .bits) ∙ e)
 
-module _ {N : Type 0} (g : Graph N) (x : N) (h : Graph N) (sound : Sound g) (fold : Folded g x h) where
+module _ {N : Type 0} (g : Graph N) (x : N) (h : Graph N) (sixteen : (i : ℕ) → i < g .size → length (g .addr i) ≡ 16) (fold : Folded g x h) where
   -- ---- from the graph before to the one after
   -- a chain that is found, with a first record that is no longer than b
   record Kept (n : N) (b : ℕ) (c : List ℕ) : Type 0 where
@@ -117,7 +117,7 @@ module _ {N : Type 0} (g : Graph N) (x : N) (h : Graph N) (sound : Sound g) (fol
           tail = w .rest;
           linked = w .linked;
           ends = w .ends;
-          bits = λ m. joined-bits g h sound r i (k .0) (u .0 .0) f (k .2) p (w .rest) m (w .bits m);
+          bits = λ m. joined-bits g h sixteen r i (k .0) (u .0 .0) f (k .2) p (w .rest) m (w .bits m);
         };
         short = omega (arith, k .2 .length);
       }
@@ -184,7 +184,7 @@ module _ {N : Type 0} (g : Graph N) (x : N) (h : Graph N) (sound : Sound g) (fol
                 tail = i ∷ w .rest;
                 linked = (f, w .linked);
                 ends = w .ends;
-                bits = λ k. sym (joined-bits g h sound r i j (u .0 .0) f c (w .rest) q k (sym (w .bits k)));
+                bits = λ k. sym (joined-bits g h sixteen r i j (u .0 .0) f c (w .rest) q k (sym (w .bits k)));
               };
               short = inr u;
             }

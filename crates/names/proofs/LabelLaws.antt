@@ -12,6 +12,7 @@ use borrow.Author.Tests.{lt-ltb, le-ltb, eq-eqb, ne-eqb, eqb-false, ltb-false, n
 use Rattle.octets.specs.Bits.{octetsFor}
 use Rattle.names.specs.Labels.{firstOf, isLabel, countFor, countOf, sizeOf, unusedClear, runOf, faultOf}
 use Rattle.octets.specs.Answers.{earns}
+use Rattle.octets.proofs.SmallLaws.{earns-zero}
 use Rattle.names.specs.Reads.{Sound}
 use Rattle.names.specs.Steps.{broken, stepAt, stepFor, stepOf}
 
@@ -112,10 +113,6 @@ module _ (used run : ℕ) (xs : List ℕ) where
       go : (n : ℕ) → stepFor n used run xs .number ≡ n
       go zero = refl
       go (suc n) = refl
-
-earns-zero : (b : Bool) (n r : ℕ) → earns b (suc n) r ≡ 0 → (b ≡ false) × (r ≡ 0)
-earns-zero true n r e = let z : ⊥ = omega arith in absurd z
-earns-zero false n r e = (refl, e)
 
 pub fault-sound : (used run : ℕ) (xs : List ℕ) → faultOf used run xs ≡ 0 → Sound used run xs
 unfolding faultOf

@@ -6,6 +6,7 @@ pub mod WriteLaws
 pub mod RoundLaws
 pub mod StandardLaws
 pub mod AnswerLaws
+pub mod FrontLaws
 pub mod NameLaws
 pub mod MergeLaws
 pub mod Examples

@@ -33,7 +33,7 @@ labels-skip zero xs = refl
 labels-skip (suc k) [] = refl
 labels-skip (suc k) (x ∷ xs) = labels-skip k xs
 
-labels-end : (xs : List ℕ) → firstOf xs ≡ 0 → labelsFrom 0 xs ≡ []
+pub labels-end : (xs : List ℕ) → firstOf xs ≡ 0 → labelsFrom 0 xs ≡ []
 unfolding labelsFrom
 labels-end [] e = refl
 labels-end (x ∷ xs) e = rw (labelsFrom, eq-eqb x 0 e)
@@ -48,7 +48,7 @@ labels-more (x ∷ xs) e =
     go zero p = let z : ⊥ = omega arith in absurd z
     go (suc k) p = let q : suc k - 1 ≡ k = omega arith in rw q
 
-reads-labels : {used run : ℕ} {xs : List ℕ} {ls : List Label} {end : ℕ} → Reads used run xs ls end → ls ≡ labelsFrom 0 xs
+pub reads-labels : {used run : ℕ} {xs : List ℕ} {ls : List Label} {end : ℕ} → Reads used run xs ls end → ls ≡ labelsFrom 0 xs
 reads-labels (root {xs = xs} o f e) = sym (labels-end xs f)
 reads-labels (more {xs = xs} {ls = ls} o f e r) = ap (λ (l : Label). l ∷ ls) e ∙ ap (λ (ms : List Label). labelOf xs ∷ ms) (reads-labels r) ∙ sym (labels-more xs f)
 
@@ -127,7 +127,7 @@ abbrev pub runTo : ℕ → Packer → Run
 runTo end p = record { end = end; packer = p }
 
 -- the header of a run whose labels have all been passed
-header : (out : List ℕ) (to v w : ℕ) → to + 2 ≤ length out → take (to + 2) (set (set out to v) (to + 1) w) ≡ take to out ++ (v ∷ w ∷ [])
+pub header : (out : List ℕ) (to v w : ℕ) → to + 2 ≤ length out → take (to + 2) (set (set out to v) (to + 1) w) ≡ take to out ++ (v ∷ w ∷ [])
 header out to v w h =
     let e : to + 2 ≡ to + 1 + 1 = omega arith in
     let l = length-set out to v in
@@ -200,7 +200,7 @@ run-length name at n b =
     let bs = unpack n (drop (at + 2) name) in
     ap length (ap runBits (b .labels)) ∙ length-append R bs ∙ ap (λ (k : ℕ). length R + k) (b .size)
 
-run-written : (X A T : List ℕ) (c : ℕ) → 0 < length X → c ≡ length X % 256 → T ≡ (A ++ (65 ∷ c ∷ [])) ++ packFrom 0 0 (X ++ []) → T ≡ A ++ bitLabel X
+pub run-written : (X A T : List ℕ) (c : ℕ) → 0 < length X → c ≡ length X % 256 → T ≡ (A ++ (65 ∷ c ∷ [])) ++ packFrom 0 0 (X ++ []) → T ≡ A ++ bitLabel X
 unfolding pack
 run-written X A T c h e t =
     t ∙ append-assoc A (65 ∷ c ∷ []) (packFrom 0 0 (X ++ [])) ∙ rw (append-nil X, e, bit-label-some X h)
@@ -231,6 +231,8 @@ first-cons [] h = let z : ⊥ = omega arith in absurd z
 first-cons (x ∷ xs) h = rw add-one
 
 pub record AtOrdinary (name : List ℕ) (at n : ℕ) : Type 0 where
+  pub content : List ℕ
+  pub labels : labelsAt name at ≡ ordinary content ∷ labelsAt name (at + n)
   pub begins : Begins name (at + n)
   pub inside : at + n ≤ length name
   pub encoded : encodeAt name at ≡ take n (drop at name) ++ encodeAt name (at + n)
@@ -252,6 +254,8 @@ at-ordinary name at n b f g e =
     let t = length-take-le (firstOf xs) (drop 1 xs) (omega (arith, o .fits)) in
     let w : labelsAt name at ≡ ordinary (take (firstOf xs) (drop 1 xs)) ∷ labelsAt name (at + n) = labels-at name at k ∙ rw (label-ordinary xs j, ← y) in
     record {
+      content = take (firstOf xs) (drop 1 xs);
+      labels = w;
       begins = begins-next name at (at + n) b k y;
       inside = omega (arith, o .fits, begins-inside name at b);
       encoded = ap (λ (ms : List Label). encodeFrom [] (units ms)) w ∙ ap (λ (v : ℕ). (v ∷ take (firstOf xs) (drop 1 xs)) ++ encodeFrom [] (units (labelsAt name (at + n)))) t

@@ -35,7 +35,7 @@ bit-label-merge (x ∷ b) (y ∷ run) =
     let k = length-append b (y ∷ run) in
     omega arith
 
-one-label-written : (run : List ℕ) (ls : List Label) → written (oneLabel run ls) ≡ bitLabel run ++ written ls
+pub one-label-written : (run : List ℕ) (ls : List Label) → written (oneLabel run ls) ≡ bitLabel run ++ written ls
 unfolding oneLabel written writeLabel bitLabel
 one-label-written [] ls = refl
 one-label-written (b ∷ bs) ls = refl
@@ -63,12 +63,12 @@ encode-shorter run (bits b ∷ ls) =
     rw (encode-before b run (units ls)) (omega arith)
 
 -- the units are those of the labels
-before-append : (b run : List ℕ) (us : List Unit) → before (b ++ run) us ≡ before run (before b us)
+pub before-append : (b run : List ℕ) (us : List Unit) → before (b ++ run) us ≡ before run (before b us)
 unfolding before
 before-append [] run us = refl
 before-append (x ∷ b) run us = before-append b run (bit x ∷ us)
 
-one-label-units : (run : List ℕ) (ls : List Label) → units (oneLabel run ls) ≡ before run (units ls)
+pub one-label-units : (run : List ℕ) (ls : List Label) → units (oneLabel run ls) ≡ before run (units ls)
 unfolding oneLabel units before
 one-label-units [] ls = refl
 one-label-units (b ∷ bs) ls = refl
@@ -80,7 +80,7 @@ merged-units run (ordinary l ∷ ls) = one-label-units run (ordinary l ∷ merge
 merged-units run (bits b ∷ ls) = merged-units (b ++ run) ls ∙ before-append b run (units ls)
 
 -- and no two bit labels are adjacent
-one-label-apart : (run : List ℕ) (l : List ℕ) (ls : List Label) → apart false ls ≡ true → apart false (oneLabel run (ordinary l ∷ ls)) ≡ true
+pub one-label-apart : (run : List ℕ) (l : List ℕ) (ls : List Label) → apart false ls ≡ true → apart false (oneLabel run (ordinary l ∷ ls)) ≡ true
 unfolding oneLabel apart
 one-label-apart [] l ls h = h
 one-label-apart (b ∷ bs) l ls h = h
@@ -196,7 +196,7 @@ scan-written false used run (bits b ∷ ms) h a r k =
     (front-bits used run b (written ms) (h .0) (omega arith) (omega (arith, h .0 .1))) (drop-append-seam (bitLabel b) (written ms)) (ih ∙ ap (done ms) e)
 
 -- what a scan has read fits, merged
-fit-one : (run : List ℕ) (ms : List Label) → Bits run → length run ≤ 256 → AllFit ms → AllFit (oneLabel run ms)
+pub fit-one : (run : List ℕ) (ms : List Label) → Bits run → length run ≤ 256 → AllFit ms → AllFit (oneLabel run ms)
 unfolding oneLabel
 fit-one [] ms b l h = h
 fit-one (x ∷ run) ms b l h = ((omega arith, l, b), h)

@@ -5,7 +5,6 @@ ghost use mathlib.Core.List.{_++_};
 ghost use Prim.Native.Nat.{_+_, _-_, _*_, _/_, _%_, _≤_, _<_};
 ghost use lib.ListN.{length, getD, drop};
 ghost use Rattle.octets.specs.Octets.{same, blank};
-ghost use Rattle.names.specs.Labels.{countFor};
 ghost use Rattle.names.specs.Scan.{scanOf, wellFormed};
 ghost use Rattle.names.specs.Standard.{standardOf, sameName, inStandardForm};
 ghost use Rattle.names.specs.Name.{heldOf};
@@ -173,16 +172,6 @@ fn still_apart(ok: bool, run: usize, next: usize) -> bool
     false
 }
 
-// The bits that a count octet stands for: 256 is written as 0.
-fn count(c: u8) -> usize
-    ensures { λ r. ⌜ (r ≡ countFor c) × (1 ≤ r) × (r ≤ 256) ⌝ }
-{
-    if c == 0 {
-        return 256;
-    }
-    octets::wide(c)
-}
-
 // A label that is refused.
 fn broken_label(k: u8) -> Step
     ensures { λ r. ⌜ r ≡ broken k ⌝ }
@@ -231,7 +220,7 @@ fn bit_label(s: &[u8], at: usize, run: usize) -> Step
     if n <= a {
         return broken_label(11);
     }
-    let bits = count(s[a]);
+    let bits = inside::count(s[a]);
     let octets = (bits + 7) / 8;
     let e = at + 2 + octets;
     if n < e {
@@ -282,7 +271,7 @@ fn pack_run(name: &[u8], at: usize, sum: usize, to: usize, out: &mut [u8]) -> Ru
         };
         return Run { end: at, packer };
     }
-    let n = count(name[at + 1]);
+    let n = inside::count(name[at + 1]);
     let a = at + 2;
     let e = a + (n + 7) / 8;
     let r = pack_run(name, e, sum + n, to, out);
@@ -300,7 +289,7 @@ fn next(name: &[u8], at: usize, to: usize, out: &mut [u8]) -> Place
 {
     let x = name[at];
     if x == 65 {
-        let n = count(name[at + 1]);
+        let n = inside::count(name[at + 1]);
         let a = at + 2;
         let e = a + (n + 7) / 8;
         let r = pack_run(name, e, n, to, out);
@@ -336,3 +325,5 @@ fn merge(name: &[u8], out: &mut [u8]) -> usize
     }
     0
 }
+
+pub mod inside;

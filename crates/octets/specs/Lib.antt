@@ -2,3 +2,4 @@ pub mod Octets
 pub mod Bits
 pub mod Answers
 pub mod Packing
+pub mod Zeros

@@ -44,3 +44,4 @@ pub fn wide(x: u8) -> usize
 }
 
 pub mod inside;
+pub mod zeros;

@@ -1,8 +1,11 @@
 //! Input for the tests and benchmarks, made from fixed seeds.
 
 pub mod a6;
+pub mod examples;
+pub mod forward;
 pub mod names;
 pub mod plan;
+pub mod reverse;
 
 /// A small deterministic source of numbers (splitmix64).
 pub struct Random {

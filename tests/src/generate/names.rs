@@ -184,6 +184,13 @@ pub fn standard(random: &mut Random, name: &mut Name) {
     }
 }
 
+/// A well-formed name of exactly `total` octets, 1 or 3 to 255, with at most `longest` octets in a label.
+pub fn of_length(random: &mut Random, name: &mut Name, total: usize, longest: usize, bits: usize) {
+    name.clear();
+    name.fill_to(random, total - 1, longest, bits);
+    name.end();
+}
+
 /// A name, good or damaged in some way.
 pub fn any(random: &mut Random, name: &mut Name) {
     match random.below(8) {
@@ -309,4 +316,43 @@ fn made(number: usize, mut make: impl FnMut(&mut Name)) -> Vec<Vec<u8>> {
         names.push(name.octets.clone());
     }
     names
+}
+
+/// Another spelling of a name in standard form: its bit labels cut in two or three at any places, as far as the name
+/// stays within 255 octets.
+pub fn respelt(random: &mut Random, octets: &[u8]) -> Vec<u8> {
+    let mut name = Name::new();
+    let mut at = 0;
+    while octets[at] != 0 {
+        let label = &octets[at..];
+        if label[0] != 65 {
+            at += 1 + label[0] as usize;
+            name.label(&label[1..1 + label[0] as usize]);
+            continue;
+        }
+        let mut left = if label[1] == 0 { 256 } else { label[1] as usize };
+        at += 2 + left.div_ceil(8);
+        // The lowest bits come first in the name, and last in the label.
+        for _ in 0..random.below(3) {
+            let spare = 255 - (name.octets.len() + octets.len() - at + 2 + left.div_ceil(8));
+            if left > 1 && spare >= 3 {
+                let lower = random.between(1, left - 1);
+                name.bits(lower, &moved(&label[2..], left - lower, lower));
+                left -= lower;
+            }
+        }
+        name.bits(left, &label[2..]);
+    }
+    name.end();
+    name.octets
+}
+
+/// `count` bits of a bit label from bit `from` on, left-justified.
+fn moved(bits: &[u8], from: usize, count: usize) -> [u8; 32] {
+    let mut octets = [0; 32];
+    for bit in 0..count {
+        let set = bits[(from + bit) / 8] >> (7 - (from + bit) % 8) & 1;
+        octets[bit / 8] |= set << (7 - bit % 8);
+    }
+    octets
 }

@@ -245,6 +245,22 @@ pub fn any_table(random: &mut Random, made: &mut Name, table: &mut Vec<u8>) {
     }
 }
 
+/// Damages a table in order now and then: its length, a record, two DNAMEs with one owner.
+pub fn spoil(random: &mut Random, made: &mut Name, table: &mut Vec<u8>) {
+    match random.below(24) {
+        0 => table.truncate(random.below(table.len() + 1)),
+        1 => table.extend(vec![0; random.between(1, 40)]),
+        2 | 3 => {
+            let records = table.len() / RECORD;
+            if let Some(record) = table.chunks_exact_mut(RECORD).nth(random.below(records.max(1))) {
+                damage(random, made, record);
+            }
+        }
+        4 => table.extend(dname_record(&name("twice"), &name("t")).repeat(2)),
+        _ => {}
+    }
+}
+
 /// Damages one field of a record. What comes of it may happen to keep the layout.
 pub fn damage(random: &mut Random, made: &mut Name, record: &mut [u8]) {
     let slot = random.pick(&[OWNER, TARGET]);

@@ -1,6 +1,9 @@
 //! An independent version of the library, one file a layer, written for speed: one pass over the input, no
-//! allocation, outputs into lent memory. It takes nothing from the library's code.
+//! allocation where it matters, outputs into lent memory. It takes nothing from the library's code.
 
 pub mod a6;
+pub mod collapse;
+pub mod forward;
 pub mod names;
 pub mod plan;
+pub mod reverse;

@@ -3,9 +3,9 @@
 /// The most octets in a name.
 pub const NAME: usize = 255;
 /// The most bits in a run of bit labels.
-const RUN: usize = 256;
+pub const RUN: usize = 256;
 /// The first octet of a bit label.
-const BIT_LABEL: u8 = 65;
+pub const BIT_LABEL: u8 = 65;
 
 /// What reading a name gives.
 #[derive(Clone, Copy, Debug, PartialEq)]
@@ -23,7 +23,7 @@ const MALFORMED: Scan = Scan { number: 12, used: 0, standard: false };
 
 /// Bits in a bit label with this count octet.
 #[inline(always)]
-fn bits_of(count: u8) -> usize {
+pub fn bits_of(count: u8) -> usize {
     if count == 0 {
         RUN
     } else {
@@ -75,13 +75,13 @@ pub fn scan(data: &[u8]) -> Scan {
 
 /// 256 bits, left-justified: the higher half first.
 #[derive(Clone, Copy)]
-struct Bits {
+pub struct Bits {
     high: u128,
     low: u128,
 }
 
 impl Bits {
-    fn from(octets: &[u8]) -> Bits {
+    pub fn from(octets: &[u8]) -> Bits {
         let mut all = [0; 32];
         all[..octets.len()].copy_from_slice(octets);
         let half = |at: usize| u128::from_be_bytes(all[at..at + 16].try_into().expect("sixteen octets"));
@@ -89,7 +89,7 @@ impl Bits {
     }
 
     /// These bits moved `by` places away from the root, 1 to 255.
-    fn lowered(self, by: usize) -> Bits {
+    pub fn lowered(self, by: usize) -> Bits {
         if by >= 128 {
             Bits { high: 0, low: self.high >> (by - 128) }
         } else {
@@ -97,7 +97,21 @@ impl Bits {
         }
     }
 
-    fn put(self, octets: &mut [u8]) {
+    /// These bits moved `by` places towards the root, 1 to 255; the first ones fall away.
+    pub fn raised(self, by: usize) -> Bits {
+        if by >= 128 {
+            Bits { high: self.low << (by - 128), low: 0 }
+        } else {
+            Bits { high: self.high << by | self.low >> (128 - by), low: self.low << by }
+        }
+    }
+
+    /// The bits that are set in either.
+    pub fn or(self, other: Bits) -> Bits {
+        Bits { high: self.high | other.high, low: self.low | other.low }
+    }
+
+    pub fn put(self, octets: &mut [u8]) {
         let mut all = [0; 32];
         all[..16].copy_from_slice(&self.high.to_be_bytes());
         all[16..].copy_from_slice(&self.low.to_be_bytes());
@@ -142,8 +156,7 @@ fn merge(name: &[u8], out: &mut [u8]) -> usize {
             let bits = bits_of(name[at + 1]);
             size = bits.div_ceil(8);
             let next = Bits::from(&name[at + 2..at + 2 + size]);
-            let lowered = merged.lowered(bits);
-            merged = Bits { high: next.high | lowered.high, low: next.low | lowered.low };
+            merged = next.or(merged.lowered(bits));
             run += bits;
             at += 2 + size;
         }
@@ -204,4 +217,16 @@ pub fn standard(name: &[u8], out: &mut [u8], figures: &mut [u32]) -> u32 {
     }
     figures[0] = put_standard(name, scan.standard, out) as u32;
     0
+}
+
+/// A slot with the standard form of a name that fills its slice; None for a malformed one.
+#[inline(always)]
+pub fn slot_of(name: &[u8]) -> Option<[u8; SLOT]> {
+    let scan = scan(name);
+    if scan.number != 0 || scan.used != name.len() {
+        return None;
+    }
+    let mut slot = [0; SLOT];
+    slot[0] = put_standard(name, scan.standard, &mut slot[1..]) as u8;
+    Some(slot)
 }

@@ -1,4 +1,4 @@
-//! The plan table (01, The plan table): its check and the owner part.
+//! The plan table (01, The plan table): its check, the owner part, and where the records of a name stand.
 
 use super::names::{self, SLOT};
 
@@ -13,8 +13,8 @@ const ADDRESS: usize = 4;
 const OWNER: usize = 20;
 const TARGET: usize = 276;
 /// The types.
-const A6: u16 = 38;
-const DNAME: u16 = 39;
+pub const A6: u16 = 38;
+pub const DNAME: u16 = 39;
 
 /// The slot of a record that begins at `at`.
 #[inline(always)]
@@ -23,33 +23,81 @@ fn slot(record: &[u8], at: usize) -> &[u8; SLOT] {
 }
 
 #[inline(always)]
-fn type_of(record: &[u8]) -> u16 {
+pub fn type_of(record: &[u8]) -> u16 {
     u16::from_be_bytes([record[0], record[1]])
+}
+
+#[inline(always)]
+pub fn length_of(record: &[u8]) -> u8 {
+    record[LENGTH]
+}
+
+#[inline(always)]
+pub fn address_of(record: &[u8]) -> u128 {
+    u128::from_be_bytes(record[ADDRESS..OWNER].try_into().expect("sixteen octets"))
+}
+
+#[inline(always)]
+pub fn owner_of(record: &[u8]) -> &[u8; SLOT] {
+    slot(record, OWNER)
+}
+
+#[inline(always)]
+pub fn target_of(record: &[u8]) -> &[u8; SLOT] {
+    slot(record, TARGET)
+}
+
+/// The first bits of an address set, for each number of them.
+pub const FIRST: [u128; 129] = {
+    let mut masks = [u128::MAX; 129];
+    let mut number = 0;
+    while number < 128 {
+        masks[number] = !(u128::MAX >> number);
+        number += 1;
+    }
+    masks
+};
+
+/// Writes an A6 record.
+#[inline(always)]
+pub fn put_a6(record: &mut [u8], length: u8, address: u128, owner: &[u8; SLOT], target: &[u8; SLOT]) {
+    record[..2].copy_from_slice(&A6.to_be_bytes());
+    record[LENGTH] = length;
+    record[ZERO] = 0;
+    record[ADDRESS..OWNER].copy_from_slice(&address.to_be_bytes());
+    record[OWNER..TARGET].copy_from_slice(owner);
+    record[TARGET..RECORD].copy_from_slice(target);
+}
+
+/// Record `index` of a table.
+#[inline(always)]
+pub fn record(table: &[u8], index: usize) -> &[u8] {
+    &table[index * RECORD..(index + 1) * RECORD]
 }
 
 /// The record keeps the layout.
 #[inline(always)]
 fn keeps_layout(record: &[u8]) -> bool {
     let kind = type_of(record);
-    let length = record[LENGTH];
-    let address = u128::from_be_bytes(record[ADDRESS..OWNER].try_into().expect("sixteen octets"));
+    let length = length_of(record);
+    let address = address_of(record);
     let first = match (kind, length) {
         (A6, 0) => 0,
         (A6, 1..=128) => address >> (128 - length),
         (DNAME, 0) => address,
         _ => return false,
     };
-    let target = slot(record, TARGET);
+    let target = target_of(record);
     first == 0
         && record[ZERO] == 0
-        && names::in_slot(slot(record, OWNER)).is_some()
+        && names::in_slot(owner_of(record)).is_some()
         && if kind == A6 && length == 0 { names::is_blank(target) } else { names::in_slot(target).is_some() }
 }
 
-/// Places in the list of owners; a power of two, and twice the most records.
+/// Places in a list of owners; a power of two, and twice the most records.
 const PLACES: usize = 2048;
 /// Odd factors, one for each eight octets of a slot.
-const FACTORS: [u64; SLOT / 8] = {
+static FACTORS: [u64; SLOT / 8] = {
     let mut factors = [0; SLOT / 8];
     let mut factor = 0x9e37_79b9_7f4a_7c15_u64;
     let mut at = 0;
@@ -61,7 +109,40 @@ const FACTORS: [u64; SLOT / 8] = {
     factors
 };
 
-/// The owners of DNAMEs met so far, by a hash: at each place the index of a record and one, and the other bits of its
+/// Octets that are looked at of every slot; most names fit in them.
+const USUAL: usize = 32;
+
+/// The octets of a slot that may be set after the usual ones.
+#[inline(always)]
+fn unusual(slot: &[u8; SLOT]) -> &[u8] {
+    let end = (slot[0] as usize / 8 + 1) * 8;
+    &slot[USUAL..end.max(USUAL)]
+}
+
+#[inline(always)]
+fn hash(slot: &[u8; SLOT]) -> u64 {
+    let part = |octets: &[u8], factors: &[u64]| {
+        let mut sum = 0_u64;
+        for (word, factor) in octets.chunks_exact(8).zip(factors) {
+            let word = u64::from_le_bytes(word.try_into().expect("eight octets"));
+            sum = sum.wrapping_add((word ^ word >> 32).wrapping_mul(*factor));
+        }
+        sum
+    };
+    let mut sum = part(&slot[..USUAL], &FACTORS);
+    if slot[0] as usize >= USUAL {
+        sum = sum.wrapping_add(part(unusual(slot), &FACTORS[USUAL / 8..]));
+    }
+    (sum ^ sum >> 29).wrapping_mul(0xff51_afd7_ed55_8ccd)
+}
+
+/// Two slots hold the same name.
+#[inline(always)]
+pub fn same(one: &[u8; SLOT], other: &[u8; SLOT]) -> bool {
+    one[..USUAL] == other[..USUAL] && unusual(one) == unusual(other)
+}
+
+/// Owners of DNAMEs met so far, by a hash: at each place the index of a record and one, and the other bits of its
 /// owner's hash; 0 where there is none.
 struct Owners {
     places: [u32; PLACES],
@@ -72,23 +153,11 @@ impl Owners {
         Owners { places: [0; PLACES] }
     }
 
-    #[inline(always)]
-    fn hash(slot: &[u8; SLOT]) -> u64 {
-        let words = slot[..(slot[0] as usize / 8 + 1) * 8].chunks_exact(8);
-        let mut sum = 0_u64;
-        for (word, factor) in words.zip(FACTORS) {
-            let word = u64::from_le_bytes(word.try_into().expect("eight octets"));
-            sum = sum.wrapping_add((word ^ word >> 32).wrapping_mul(factor));
-        }
-        (sum ^ sum >> 29).wrapping_mul(0xff51_afd7_ed55_8ccd)
-    }
-
     /// Adds the owner of record `index`. False where another record has the same.
     #[inline(always)]
     fn add(&mut self, table: &[u8], index: usize) -> bool {
-        let owner = |index: usize| slot(table, index * RECORD + OWNER);
-        let new = owner(index);
-        let hash = Self::hash(new);
+        let new = owner_of(record(table, index));
+        let hash = hash(new);
         let mark = (hash as u32) << 11;
         let mut place = (hash >> 53) as usize;
         loop {
@@ -97,7 +166,8 @@ impl Owners {
                 self.places[place] = mark | (index as u32 + 1);
                 return true;
             }
-            if (held ^ mark) >> 11 == 0 && owner((held & 0x7ff) as usize - 1) == new {
+            let other = (held & 0x7ff).wrapping_sub(1) as usize;
+            if (held ^ mark) >> 11 == 0 && same(owner_of(record(table, other)), new) {
                 return false;
             }
             place = (place + 1) % PLACES;
@@ -105,10 +175,88 @@ impl Owners {
     }
 }
 
-/// The answer of `a6plan_check`: 1 for a length that is no multiple of a record or too many records, 2 for a record
-/// that breaks the layout, 3 for two DNAMEs with one owner, else 0.
-#[inline(never)]
-pub fn check(table: &[u8]) -> u32 {
+/// The A6 records of a table by a hash of their owners: those at one place in a line, in table order.
+pub struct Index {
+    /// The first record in the line of each place, after all records the next one in its line. NONE ends a line.
+    next: [u16; MOST + PLACES],
+    /// Where the number of the next record in each line goes.
+    last: [u16; PLACES],
+    /// Other bits of the owners' hashes.
+    marks: [u16; MOST],
+}
+
+/// No record.
+const NONE: u16 = u16::MAX;
+/// The end of each line while it is empty.
+const EMPTY: [u16; PLACES] = {
+    let mut ends = [0; PLACES];
+    let mut place = 0;
+    while place < PLACES {
+        ends[place] = (MOST + place) as u16;
+        place += 1;
+    }
+    ends
+};
+
+impl Index {
+    #[inline(always)]
+    pub fn new() -> Index {
+        Index { next: [NONE; MOST + PLACES], last: EMPTY, marks: [0; MOST] }
+    }
+
+    /// Adds record `index`, an A6 record.
+    #[inline(always)]
+    pub fn add(&mut self, index: usize, record: &[u8]) {
+        let hash = hash(owner_of(record));
+        let place = (hash >> 53) as usize;
+        self.next[self.last[place] as usize] = index as u16;
+        self.last[place] = index as u16;
+        self.marks[index] = hash as u16;
+    }
+
+    /// The records that the name in a slot owns, in table order.
+    #[inline(always)]
+    pub fn owned<'a>(&'a self, table: &'a [u8], name: &'a [u8; SLOT]) -> Owned<'a> {
+        let hash = hash(name);
+        Owned { index: self, table, name, mark: hash as u16, next: self.next[MOST + (hash >> 53) as usize] }
+    }
+}
+
+impl Default for Index {
+    fn default() -> Index {
+        Index::new()
+    }
+}
+
+/// Records with one owner, one after another.
+#[derive(Clone)]
+pub struct Owned<'a> {
+    index: &'a Index,
+    table: &'a [u8],
+    name: &'a [u8; SLOT],
+    mark: u16,
+    next: u16,
+}
+
+impl Iterator for Owned<'_> {
+    type Item = usize;
+
+    #[inline(always)]
+    fn next(&mut self) -> Option<usize> {
+        while self.next != NONE {
+            let at = self.next as usize;
+            self.next = self.index.next[at];
+            if self.index.marks[at] == self.mark && same(owner_of(record(self.table, at)), self.name) {
+                return Some(at);
+            }
+        }
+        None
+    }
+}
+
+/// The answer of `a6plan_check`, with a look at each record from the first on, up to one that breaks the layout.
+#[inline(always)]
+pub fn check_and(table: &[u8], mut look: impl FnMut(usize, &[u8])) -> u32 {
     if !table.len().is_multiple_of(RECORD) || table.len() > MOST * RECORD {
         return 1;
     }
@@ -121,12 +269,20 @@ pub fn check(table: &[u8]) -> u32 {
         if type_of(record) == DNAME {
             differ &= owners.add(table, index);
         }
+        look(index, record);
     }
     if differ {
         0
     } else {
         3
     }
+}
+
+/// The answer of `a6plan_check`: 1 for a length that is no multiple of a record or too many records, 2 for a record
+/// that breaks the layout, 3 for two DNAMEs with one owner, else 0.
+#[inline(never)]
+pub fn check(table: &[u8]) -> u32 {
+    check_and(table, |_, _| {})
 }
 
 /// The answer of `a6plan_owner`: 5 for figures not of two, else 0, with offset and length of the owner's octets, or

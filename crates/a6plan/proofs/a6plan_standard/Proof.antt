@@ -1,6 +1,6 @@
 -- `a6plan::a6plan_standard` meets its contract: the answer is reported, and the output cleared where the number is not 0. Assumes nothing.
 use Prim.Native.Nat.{ℕ}
-use mathlib.Core.Path.{_≡_, ap, _∙_, sym}
+use mathlib.Core.Path.{ap, _∙_, sym}
 use mathlib.Core.List.{List}
 use lib.ListN.{length}
 use borrow.Author.Needs.{needs}
@@ -12,27 +12,21 @@ use Rattle.a6plan.proofs.ExportLaws.{out-done, out-refused}
 use Rattle.a6plan.proofs.a6plan_standard.Statement.{statement}
 use Rattle.a6plan.proofs.a6plan_standard.Tie as tie
 
--- src/lib.rt:15:9
 standard-form-requires : tie.Need-standard-form-requires
 standard-form-requires c κs = search needs
 
--- src/lib.rt:16:9
 report-requires : tie.Need-report-requires
 report-requires c κs = search needs
 
--- src/lib.rt:18:9
 clear-requires : tie.Need-clear-requires
 clear-requires c κs = search needs
 
--- src/lib.rt:9:1
 same-length : tie.Need-same-length
 same-length c = search needs
 
--- src/lib.rt:9:1
 same-length-2 : tie.Need-same-length-2
 same-length-2 c = search needs
 
--- src/lib.rt:9:1
 returns : tie.Need-returns
 returns c =
     let a = c .before .before .before .before .before .before .before .before .before .before .before .before .before .before .before .before .args in
@@ -47,15 +41,12 @@ returns c =
       ),
     )
 
--- src/lib.rt:9:1
 same-length-3 : tie.Need-same-length-3
 same-length-3 c = search needs
 
--- src/lib.rt:9:1
 same-length-4 : tie.Need-same-length-4
 same-length-4 c = search needs
 
--- src/lib.rt:9:1
 returns-2 : tie.Need-returns-2
 returns-2 c =
     let a = c .before .before .before .before .before .before .before .before .before .before .before .before .args in

@@ -12,7 +12,7 @@ use Rattle.names.proofs.pack_run.Reads as pack-run
 use Rattle.names.proofs.pack_run.Kinds as pack-run-kinds
 use Rattle.names.proofs.+pack_run.Lts-pack_run as pack-run-lts
 use Rattle.octets.proofs.inside.append.Reads as append-reads
-use Rattle.names.proofs.count.Reads as count-reads
+use Rattle.names.proofs.inside.count.Reads as count-reads
 use Rattle.names.proofs.+pack_run.{statement}
 use Rattle.names.proofs.+pack_run.Tie.{close}
 

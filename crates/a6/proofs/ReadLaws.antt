@@ -1,0 +1,265 @@
+-- Laws of the reader: one for each test, and what holds where all are passed. Assumes nothing.
+use Prim.Native.Nat.{ℕ, zero, suc, _+_, _-_, _/_, _%_, _^_, _≤_, _<_}
+use mathlib.Core.Path.{_≡_, refl, ap, _∙_, sym}
+use mathlib.Core.Bool.{Bool, true, false, not}
+use mathlib.Core.List.{List, [], _∷_, _++_, append-nil}
+use lib.Dec.{ltb, eqb}
+use lib.ListN.{length, getD, take, drop, set, length-drop}
+use lib.Bits.{bitAnd, and-mask}
+use lib.Seq.{take-all, length-take-le, getD-at, set-at, paste}
+use native.Mathlib.Omega.{arith}
+use borrow.Author.Tests.{lt-ltb, le-ltb, eq-eqb, ne-eqb, ltb-false, eqb-true, eqb-false}
+use Rattle.octets.specs.Octets.{blank, Small}
+use Rattle.octets.specs.Answers.{earns}
+use Rattle.octets.proofs.OctetLaws.{length-blank, small-drop, small-take, drop-blank}
+use Rattle.octets.proofs.SmallLaws.{earns-zero}
+use Rattle.names.specs.Scan.{scanOf, wellFormed}
+use Rattle.names.specs.Steps.{scanned, found}
+use Rattle.names.specs.Name.{nameOf, heldOf}
+use Rattle.names.specs.declared.Scanned.{Scanned}
+use Rattle.names.specs.declared.Name.{Name}
+use Rattle.names.proofs.AnswerLaws.{form-good, copied}
+use Rattle.names.proofs.StandardLaws.{scan-standard, in-standard}
+use Rattle.names.proofs.FrontLaws.{scan-inside}
+use Rattle.names.proofs.MergeLaws.{begins-start}
+use Rattle.names.proofs.NameLaws.{held-formed}
+use Rattle.a6.specs.Data.{suffixOctets, prefixOf, suffixOf, afterSuffix}
+use Rattle.a6.specs.Read.{nameFound, readNumber, aligned, addressIn, nameOctets, nameIn, valueOf, given, refusedReading, readingFor, readOf}
+use Rattle.a6.specs.Standard.{withoutPadding}
+use Rattle.a6.specs.declared.Reading.{Reading}
+use Rattle.a6.proofs.SuffixLaws.{join-suffix}
+
+-- a number of its own, or what the later tests earn
+earns-own : (k later : ℕ) → earns (not (eqb k 0)) k later ≡ 0 → (k ≡ 0) × (later ≡ 0)
+earns-own k later e = go (eqb k 0) refl
+  where
+    go : (t : Bool) → eqb k 0 ≡ t → (k ≡ 0) × (later ≡ 0)
+    go true f = (eqb-true k 0 f, (rw f at e))
+    go false f = let z : k ≡ 0 = rw f at e in absurd (eqb-false k 0 f z)
+
+-- the data has a prefix length in range and its suffix
+pub record Fronted (octets : List ℕ) : Type 0 where
+  pub some : 0 < length octets
+  pub low : prefixOf octets ≤ 128
+  pub long : 1 + suffixOctets (prefixOf octets) ≤ length octets
+
+-- and a name, if one is due, and nothing else
+pub record Readable (octets : List ℕ) : Type 0 where
+  pub fronted : Fronted octets
+  pub named : nameFound octets .number ≡ 0
+  pub full : length octets ≤ 1 + suffixOctets (prefixOf octets) + nameFound octets .used
+
+module _ (octets : List ℕ) where
+  pub read-empty : length octets ≡ 0 → readNumber octets ≡ 11
+  unfolding readNumber
+  read-empty e = rw e
+
+  pub read-prefix : 0 < length octets → 128 < prefixOf octets → readNumber octets ≡ 10
+  unfolding readNumber
+  read-prefix s p = rw (readNumber, ne-eqb (length octets) 0 (λ e. omega arith), lt-ltb 128 (prefixOf octets) p)
+
+  pub read-suffix : 0 < length octets → prefixOf octets ≤ 128 → length octets < 1 + suffixOctets (prefixOf octets) → readNumber octets ≡ 11
+  unfolding readNumber
+  read-suffix s p l =
+      rw (readNumber, ne-eqb (length octets) 0 (λ e. omega arith), le-ltb 128 (prefixOf octets) p, lt-ltb (length octets) (1 + suffixOctets (prefixOf octets)) l)
+
+  module _ (f : Fronted octets) where
+    past : readNumber octets
+        ≡ earns (not (eqb (nameFound octets .number) 0)) (nameFound octets .number) (earns (ltb (1 + suffixOctets (prefixOf octets) + nameFound octets .used) (length octets)) 13 0)
+    unfolding readNumber
+    past =
+        rw (readNumber, ne-eqb (length octets) 0 (λ e. omega (arith, f .some)), le-ltb 128 (prefixOf octets) (f .low), le-ltb (length octets) (1 + suffixOctets (prefixOf octets)) (f .long))
+
+    pub read-name : (nameFound octets .number ≡ 0 → ⊥) → readNumber octets ≡ nameFound octets .number
+    read-name n = past ∙ rw (ne-eqb (nameFound octets .number) 0 n)
+
+    pub read-left : nameFound octets .number ≡ 0 → 1 + suffixOctets (prefixOf octets) + nameFound octets .used < length octets → readNumber octets ≡ 13
+    read-left n l = past ∙ rw (eq-eqb (nameFound octets .number) 0 n, lt-ltb (1 + suffixOctets (prefixOf octets) + nameFound octets .used) (length octets) l)
+
+    pub read-done : nameFound octets .number ≡ 0 → length octets ≤ 1 + suffixOctets (prefixOf octets) + nameFound octets .used → readNumber octets ≡ 0
+    read-done n l = past ∙ rw (eq-eqb (nameFound octets .number) 0 n, le-ltb (1 + suffixOctets (prefixOf octets) + nameFound octets .used) (length octets) l)
+
+  pub readable : readNumber octets ≡ 0 → Readable octets
+  unfolding readNumber
+  readable e =
+      let t1 = earns-zero (eqb (length octets) 0) 10 _ e in
+      let t2 = earns-zero (ltb 128 (prefixOf octets)) 9 _ (t1 .1) in
+      let t3 = earns-zero (ltb (length octets) (1 + suffixOctets (prefixOf octets))) 10 _ (t2 .1) in
+      let t4 = earns-own (nameFound octets .number) _ (t3 .1) in
+      let t5 = earns-zero (ltb (1 + suffixOctets (prefixOf octets) + nameFound octets .used) (length octets)) 12 _ (t4 .1) in
+      let n : length octets ≡ 0 → ⊥ = eqb-false (length octets) 0 (t1 .0) in
+      record {
+        fronted = record {
+          some = omega (arith, n);
+          low = ltb-false 128 (prefixOf octets) (t2 .0);
+          long = ltb-false (length octets) (1 + suffixOctets (prefixOf octets)) (t3 .0);
+        };
+        named = t4 .0;
+        full = ltb-false (1 + suffixOctets (prefixOf octets) + nameFound octets .used) (length octets) (t5 .0);
+      }
+
+  pub refused-reading : (j : ℕ) → readNumber octets ≡ suc j → readOf octets ≡ refusedReading (suc j)
+  unfolding readOf
+  refused-reading j e = rw e
+
+  pub refused-own : (k : ℕ) → (k ≡ 0 → ⊥) → readNumber octets ≡ k → refusedReading k ≡ readOf octets
+  refused-own zero n e = absurd (n refl)
+  refused-own (suc j) n e = sym (refused-reading j e)
+
+  pub done-reading : readNumber octets ≡ 0 → _≡_ {A = Reading} (readOf octets) (record { number = 0; value = valueOf octets })
+  unfolding readOf
+  done-reading e = rw e
+
+  pub reading-number : readOf octets .number ≡ readNumber octets
+  unfolding readOf refusedReading
+  reading-number = go (readNumber octets)
+    where
+      go : (k : ℕ) → readingFor k octets .number ≡ k
+      go zero = refl
+      go (suc k) = refl
+
+  -- what is found of a name
+  pub found-none : prefixOf octets ≡ 0 → nameFound octets ≡ found 0 true
+  unfolding nameFound
+  found-none e = rw (nameFound, eq-eqb (prefixOf octets) 0 e)
+
+  pub found-some : (prefixOf octets ≡ 0 → ⊥) → nameFound octets ≡ scanned (scanOf (afterSuffix octets))
+  unfolding nameFound
+  found-some e = rw (nameFound, ne-eqb (prefixOf octets) 0 e)
+
+  pub name-none : prefixOf octets ≡ 0 → nameIn octets ≡ nameOf []
+  unfolding nameIn
+  name-none e = rw (nameIn, eq-eqb (prefixOf octets) 0 e)
+
+  pub name-some : (prefixOf octets ≡ 0 → ⊥) → nameIn octets ≡ heldOf (nameOctets octets)
+  unfolding nameIn
+  name-some e = rw (nameIn, ne-eqb (prefixOf octets) 0 e)
+
+  pub name-rest : length octets ≤ 1 + suffixOctets (prefixOf octets) + nameFound octets .used → nameOctets octets ≡ afterSuffix octets
+  unfolding nameOctets afterSuffix
+  name-rest h =
+      let n = length-drop (1 + suffixOctets (prefixOf octets)) octets in
+      take-all (nameFound octets .used) (drop (1 + suffixOctets (prefixOf octets)) octets) (omega arith)
+
+  -- the name of readable data is well formed
+  pub name-formed : Small octets → Readable octets → (prefixOf octets ≡ 0 → ⊥) → wellFormed (nameOctets octets) ≡ true
+  unfolding afterSuffix
+  name-formed s r e =
+      let xs = drop (1 + suffixOctets (prefixOf octets)) octets in
+      let w = found-some e in
+      let n = length-drop (1 + suffixOctets (prefixOf octets)) octets in
+      let u = scan-inside xs (small-drop (1 + suffixOctets (prefixOf octets)) octets s) in
+      let v : nameFound octets .used ≡ scanned (scanOf xs) .used = ap (λ (t : Scanned). t .used) w in
+      let k : scanned (scanOf xs) .used ≡ length xs = omega (arith, r .full, r .fronted .long) in
+      rw (name-rest (r .full)) (form-good xs (sym (ap (λ (t : Scanned). t .number) w) ∙ r .named) k)
+
+-- the parts that the code has found
+pub given-reading : (octets address : List ℕ) (name : Name) → readNumber octets ≡ 0 → address ≡ addressIn octets → name ≡ nameIn octets → given (prefixOf octets) address name ≡ readOf octets
+unfolding valueOf
+given-reading octets address name e p q = rw (p, q) (sym (done-reading octets e))
+
+-- what stands after n octets of suffix, as a part that reaches the end
+abbrev pub partAfter : ℕ → List ℕ → List ℕ
+partAfter n octets = take (length octets - (1 + n)) (drop (1 + n) octets)
+
+-- a name that fills this part: the data can be read, and its name is the one that stands here
+pub record Whole (octets : List ℕ) (n : ℕ) : Type 0 where
+  pub number : readNumber octets ≡ 0
+  pub formed : wellFormed (partAfter n octets) ≡ true
+  pub short : length (partAfter n octets) ≤ 255
+  pub small : Small (partAfter n octets)
+  pub name : heldOf (partAfter n octets) ≡ nameIn octets
+
+module _ (octets : List ℕ) (n : ℕ) (e : n ≡ suffixOctets (prefixOf octets)) where
+  part-after : partAfter n octets ≡ afterSuffix octets
+  unfolding afterSuffix
+  part-after = take-all (length octets - (1 + n)) (drop (1 + n) octets) (omega (arith, length-drop (1 + n) octets)) ∙ rw e
+
+  pub part-found : (t : Scanned) → (prefixOf octets ≡ 0 → ⊥) → t ≡ scanned (scanOf (partAfter n octets)) → nameFound octets ≡ t
+  part-found t z p = found-some octets z ∙ sym (p ∙ rw part-after)
+
+  pub part-whole : Small octets → Fronted octets → (prefixOf octets ≡ 0 → ⊥) → nameFound octets .number ≡ 0 → length octets - (1 + n) ≤ nameFound octets .used → Whole octets n
+  part-whole s f z k u =
+      let h : length octets ≤ 1 + suffixOctets (prefixOf octets) + nameFound octets .used = omega (arith, f .long) in
+      let m : nameOctets octets ≡ partAfter n octets = name-rest octets h ∙ sym part-after in
+      let w : wellFormed (partAfter n octets) ≡ true = rw (← m) (name-formed octets s (record { fronted = f; named = k; full = h }) z) in
+      record {
+        number = read-done octets f k h;
+        formed = w;
+        short = begins-start (partAfter n octets) w .short;
+        small = small-take (length octets - (1 + n)) (drop (1 + n) octets) (small-drop (1 + n) octets s);
+        name = ap heldOf (sym m) ∙ sym (name-some octets z);
+      }
+
+-- the suffix copied to the last of sixteen octets, and the zeros before it
+take-blank : (k n : ℕ) → k ≤ n → take k (blank n) ≡ blank k
+unfolding blank
+take-blank zero n h = refl
+take-blank (suc k) zero h = let z : ⊥ = omega arith in absurd z
+take-blank (suc k) (suc n) h = ap (λ (xs : List ℕ). 0 ∷ xs) (take-blank k n (omega arith))
+
+aligned-made : (octets : List ℕ) (n : ℕ) → n ≡ suffixOctets (prefixOf octets) → paste (blank 16) (16 - n) (drop 1 octets) n ≡ aligned octets
+unfolding aligned suffixOf
+aligned-made octets n e =
+    let k : 16 - n + n ≡ 16 = omega arith in
+    rw (take-blank (16 - n) 16 (omega arith), k, drop-blank 16 16, append-nil (blank (16 - n) ++ take n (drop 1 octets)), e)
+
+pub suffix-long : (octets : List ℕ) → Fronted octets → length (suffixOf octets) ≡ suffixOctets (prefixOf octets)
+unfolding suffixOf
+suffix-long octets f = length-take-le (suffixOctets (prefixOf octets)) (drop 1 octets) (omega (arith, f .long, length-drop 1 octets))
+
+pub address-unpadded : (octets : List ℕ) → Fronted octets → Small (suffixOf octets)
+    → addressIn octets ≡ blank (16 - suffixOctets (prefixOf octets)) ++ withoutPadding (prefixOf octets % 8) (suffixOf octets)
+unfolding addressIn aligned
+address-unpadded octets f s = join-suffix (prefixOf octets) (suffixOf octets) (f .low) (suffix-long octets f) s
+
+-- the address as the code makes it: where there is a suffix, its first octet loses the padding
+module _ (octets out : List ℕ) (n : ℕ) (f : Fronted octets) (small : Small octets) (e : n ≡ suffixOctets (prefixOf octets)) (p : out ≡ paste (blank 16) (16 - n) (drop 1 octets) n) where
+  parts : (s : List ℕ) → suffixOf octets ≡ s → (out ≡ blank (16 - n) ++ s) × (addressIn octets ≡ blank (16 - n) ++ withoutPadding (prefixOf octets % 8) s)
+  unfolding aligned suffixOf
+  parts s q =
+      let t = small-take (suffixOctets (prefixOf octets)) (drop 1 octets) (small-drop 1 octets small) in
+      (p ∙ aligned-made octets n e ∙ rw (q, e), address-unpadded octets f t ∙ rw (q, e))
+
+  pub address-none : n ≡ 0 → out ≡ addressIn octets
+  unfolding withoutPadding
+  address-none z = go (suffixOf octets) refl
+    where
+      go : (s : List ℕ) → suffixOf octets ≡ s → out ≡ addressIn octets
+      go [] q = parts [] q .0 ∙ sym (parts [] q .1)
+      go (x ∷ xs) q = let v : ⊥ = omega (arith, suffix-long octets f, ap length q) in absurd v
+
+  pub address-some : (n ≡ 0 → ⊥) → (v : ℕ) → v ≡ getD out (16 - n) 0 % 2 ^ (8 - prefixOf octets % 8) → set out (16 - n) v ≡ addressIn octets
+  unfolding withoutPadding
+  address-some z v w = go (suffixOf octets) refl
+    where
+      go : (s : List ℕ) → suffixOf octets ≡ s → set out (16 - n) v ≡ addressIn octets
+      go [] q = let u : ⊥ = omega (arith, suffix-long octets f, ap length q, z) in absurd u
+      go (x ∷ xs) q =
+          let a = parts (x ∷ xs) q in
+          let g : getD out (16 - n) 0 ≡ x = rw (a .0) (getD-at (blank (16 - n)) x xs 0 (16 - n) (length-blank (16 - n))) in
+          rw (w, g, a .0) (set-at (blank (16 - n)) x xs (x % 2 ^ (8 - prefixOf octets % 8)) (16 - n) (length-blank (16 - n))) ∙ sym (a .1)
+
+-- the ones that leave the first p bits of an octet out
+ones : (p : ℕ) → p < 8 → 255 / 2 ^ p ≡ 2 ^ (8 - p) - 1
+ones zero h = refl
+ones (suc zero) h = refl
+ones (suc (suc zero)) h = refl
+ones (suc (suc (suc zero))) h = refl
+ones (suc (suc (suc (suc zero)))) h = refl
+ones (suc (suc (suc (suc (suc zero))))) h = refl
+ones (suc (suc (suc (suc (suc (suc zero)))))) h = refl
+ones (suc (suc (suc (suc (suc (suc (suc zero))))))) h = refl
+ones (suc (suc (suc (suc (suc (suc (suc (suc p)))))))) h = let z : ⊥ = omega arith in absurd z
+
+pub mask-octet : (x p : ℕ) → p < 8 → bitAnd x (255 / 2 ^ p) ≡ x % 2 ^ (8 - p)
+mask-octet x p h = rw (ones p h) (and-mask x (8 - p))
+
+-- octets copied over zeros
+pub name-copied : (name out : List ℕ) → out ≡ paste (blank 255) 0 name (length name) → _≡_ {A = Name} (record { octets = out; length = length name }) (nameOf name)
+unfolding nameOf
+name-copied name out p = rw (copied name out (length name) 255 refl p)
+
+-- a name in standard form is held as it is
+pub held-standard : (name : List ℕ) → Small name → wellFormed name ≡ true → scanned (scanOf name) .standard ≡ true → nameOf name ≡ heldOf name
+held-standard name s w t = sym (held-formed name w ∙ ap nameOf (in-standard name (sym (scan-standard name s w) ∙ t) .1))

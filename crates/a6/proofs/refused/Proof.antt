@@ -1,0 +1,18 @@
+-- `a6::refused` meets its contract. Assumes nothing.
+use mathlib.Core.Path.{ap}
+use borrow.Author.Needs.{needs}
+use Rattle.names.specs.declared.Name.{Name}
+use Rattle.a6.specs.Read.{refusedReading}
+use Rattle.octets.specs.Octets.{blank}
+use Rattle.a6.proofs.refused.Statement.{statement}
+use Rattle.a6.proofs.refused.Tie as tie
+
+no-name-requires : tie.Need-no-name-requires
+no-name-requires c κs = search needs
+
+returns : tie.Need-returns
+unfolding refusedReading
+returns c = ap (λ (n : Name). record { number = c .before .args .number; value = record { prefix = 0; address = blank 16; name = n } }) (c .no-name .ensures)
+
+pub refused-spec : {M : Type 1} → statement M
+refused-spec = tie.close (tie.spec no-name-requires returns)

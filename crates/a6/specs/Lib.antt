@@ -1,0 +1,4 @@
+pub mod Data
+pub mod Read
+pub mod Write
+pub mod Standard

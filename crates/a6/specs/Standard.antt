@@ -1,0 +1,22 @@
+-- The standard form of A6 data (01, A6 data): padding bits zero, bit labels merged. Assumes nothing.
+use Prim.Native.Nat.{ℕ, _-_, _%_, _^_}
+use mathlib.Core.Bool.{true, false}
+use mathlib.Core.List.{List, [], _∷_, _++_}
+use lib.Dec.{eqb}
+use Rattle.names.specs.Standard.{standardOf}
+use Rattle.a6.specs.Data.{prefixOf, suffixOf}
+use Rattle.a6.specs.Read.{nameOctets}
+
+-- a suffix with its padding, the first bits of its first octet, made zero
+unfoldable pub withoutPadding : ℕ → List ℕ → List ℕ
+withoutPadding padding [] = []
+withoutPadding padding (x ∷ xs) = x % 2 ^ (8 - padding) ∷ xs
+
+-- the prefix name in standard form; no octets at L = 0
+unfoldable pub standardName : List ℕ → List ℕ
+unfolding nameOctets standardOf
+standardName octets = elim (eqb (prefixOf octets) 0) [ true ↦ [] | false ↦ standardOf (nameOctets octets) ]
+
+unfoldable pub standardData : List ℕ → List ℕ
+unfolding suffixOf withoutPadding standardName
+standardData octets = prefixOf octets ∷ (withoutPadding (prefixOf octets % 8) (suffixOf octets) ++ standardName octets)

@@ -1,0 +1,11 @@
+pub mod TestLaws
+pub mod RecordLaws
+pub mod FoldLaws
+pub mod OrderedLaws
+pub mod Kept
+pub mod LinkLaws
+pub mod RunningLaws
+pub mod CollapseLaws
+pub mod Demanded
+pub mod Contract
+pub mod Examples

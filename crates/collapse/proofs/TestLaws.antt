@@ -1,0 +1,123 @@
+-- The tests of records decide the statements about them. Assumes nothing.
+use Prim.Native.Nat.{ℕ, zero, suc, _+_, _<_}
+use mathlib.Core.Path.{_≡_, refl, sym, _∙_}
+use mathlib.Core.Bool.{Bool, true, false, _&&_}
+use mathlib.Core.List.{List}
+use native.Mathlib.Omega.{arith}
+use borrow.Author.Tests.{lt-ltb, ltb-true, le-leb, leb-true, eq-eqb, eqb-true}
+use Rattle.names.proofs.StandardLaws.{same-name-same, same-same-name}
+use Rattle.chains.proofs.ListLaws.{both-true}
+use Rattle.plan.specs.First.{firstFrom, some}
+use Rattle.plan.specs.Layout.{a6, typeOf, prefixOf, isA6, ownerOf, targetOf, countOf, recordAt}
+use Rattle.plan.proofs.FirstLaws.{first-none, some-none}
+use Rattle.collapse.specs.Fold.{unfinished, continues, refers, ignores, reviving}
+use Rattle.collapse.specs.Rule.{Unfinished, Continues, Refers, Reviving}
+
+-- ---- truth values
+pub clash : {A : Type 0} → false ≡ true → A
+clash e = let z : _≡_ {A = ℕ} 0 1 = cc in let y : ⊥ = omega arith in absurd y
+
+pub refuted : (b : Bool) → (b ≡ true → ⊥) → b ≡ false
+refuted true h = absurd (h refl)
+refuted false h = refl
+
+pub not-both : (b : Bool) → b ≡ true → b ≡ false → ⊥
+not-both b p q = clash (sym q ∙ p)
+
+-- three tests in a row
+pub three : (a b c : Bool) → a && b && c ≡ true → (a ≡ true) × (b ≡ true) × (c ≡ true)
+three a b c h =
+    let p = both-true (a && b) c h in
+    let q = both-true a b (p .0) in
+    (q .0, q .1, p .1)
+
+three-true : (a b c : Bool) → a ≡ true → b ≡ true → c ≡ true → a && b && c ≡ true
+three-true a b c p q r = rw (p, q) r
+
+-- the type as a test
+pub a6-type : (r : List ℕ) → isA6 r ≡ true → typeOf r ≡ a6
+unfolding isA6
+a6-type r h = eqb-true (typeOf r) a6 h
+
+pub type-a6 : (r : List ℕ) → typeOf r ≡ a6 → isA6 r ≡ true
+unfolding isA6
+type-a6 r h = eq-eqb (typeOf r) a6 h
+
+-- ---- records
+pub unfinished-is : (x r : List ℕ) → unfinished x r ≡ true → Unfinished x r
+unfolding unfinished
+unfinished-is x r h =
+    let p = three _ _ _ h in
+    (a6-type r (p .0), ltb-true 0 (prefixOf r) (p .1), same-name-same (ownerOf r) x (p .2))
+
+pub is-unfinished : (x r : List ℕ) → Unfinished x r → unfinished x r ≡ true
+unfolding unfinished
+is-unfinished x r u =
+    three-true _ _ _ (type-a6 r (u .0)) (lt-ltb 0 (prefixOf r) (u .1)) (same-same-name (ownerOf r) x (u .2))
+
+pub refers-is : (x r : List ℕ) → refers x r ≡ true → Refers x r
+unfolding refers
+refers-is x r h =
+    let p = three _ _ _ h in
+    (a6-type r (p .0), ltb-true 0 (prefixOf r) (p .1), same-name-same (targetOf r) x (p .2))
+
+pub is-refers : (x r : List ℕ) → Refers x r → refers x r ≡ true
+unfolding refers
+is-refers x r u =
+    three-true _ _ _ (type-a6 r (u .0)) (lt-ltb 0 (prefixOf r) (u .1)) (same-same-name (targetOf r) x (u .2))
+
+pub continues-is : (r q : List ℕ) → continues r q ≡ true → Continues r q
+unfolding continues
+continues-is r q h =
+    let p = three _ _ _ h in
+    (a6-type q (p .0), leb-true _ _ (p .1), same-name-same (ownerOf q) (targetOf r) (p .2))
+
+pub is-continues : (r q : List ℕ) → Continues r q → continues r q ≡ true
+unfolding continues
+is-continues r q u =
+    three-true _ _ _ (type-a6 q (u .0)) (le-leb _ _ (u .1)) (same-same-name (ownerOf q) (targetOf r) (u .2))
+
+-- ---- some number below n passes a test
+pub first-passes : (f : ℕ → Bool) (i n : ℕ) → firstFrom f i n < i + n → f (firstFrom f i n) ≡ true
+unfolding firstFrom
+first-passes f i zero h = let z : ⊥ = omega arith in absurd z
+first-passes f i (suc n) h = go (f i) refl (first-passes f (suc i) n)
+  where
+    go : (b : Bool) → f i ≡ b → (firstFrom f (suc i) n < suc i + n → f (firstFrom f (suc i) n) ≡ true) → f (firstFrom f i (suc n)) ≡ true
+    go true e ih = rw (firstFrom, e) e
+    go false e ih = let k : firstFrom f (suc i) n < i + suc n = rw (firstFrom, e) at h in rw (firstFrom, e) (ih (omega arith))
+
+module _ (f : ℕ → Bool) (n : ℕ) where
+  pub some-has : some f n ≡ true → (i : ℕ) × (i < n) × (f i ≡ true)
+  some-has h = let l = ltb-true (firstFrom f 0 n) n h in (firstFrom f 0 n, l, first-passes f 0 n (omega arith))
+
+  pub has-some : (i : ℕ) → i < n → f i ≡ true → some f n ≡ true
+  has-some i h e = go (some f n) refl
+    where
+      go : (b : Bool) → some f n ≡ b → some f n ≡ true
+      go true p = p
+      go false p = absurd (not-both (f i) e (first-none f n (some-none f n p) i h))
+
+-- ---- test 9
+pub reviving-is : (x t : List ℕ) → reviving x t ≡ true → Reviving x t
+unfolding reviving ignores
+reviving-is x t h =
+    let p = some-has (λ p. some (ignores x t p) (countOf t)) (countOf t) h in
+    let r = some-has (ignores x t (p .0)) (countOf t) (p .2) in
+    let k = three _ _ _ (r .2) in
+    record {
+      referrer = p .0;
+      there = p .1;
+      refers = refers-is x (recordAt t (p .0)) (k .0);
+      own = r .0;
+      here = r .1;
+      unfinished = unfinished-is x (recordAt t (r .0)) (k .1);
+      shorter = ltb-true _ _ (k .2);
+    }
+
+pub is-reviving : (x t : List ℕ) → Reviving x t → reviving x t ≡ true
+unfolding reviving ignores
+is-reviving x t v =
+    has-some (λ p. some (ignores x t p) (countOf t)) (countOf t) (v .referrer) (v .there)
+    (has-some (ignores x t (v .referrer)) (countOf t) (v .own) (v .here)
+    (three-true _ _ _ (is-refers x (recordAt t (v .referrer)) (v .refers)) (is-unfinished x (recordAt t (v .own)) (v .unfinished)) (lt-ltb _ _ (v .shorter))))

@@ -1,0 +1,67 @@
+-- `collapse::put_joined` meets its contract. Assumes nothing.
+use Prim.Native.Nat.{ℕ, _*_}
+use mathlib.Core.Path.{sym, ap, _∙_}
+use mathlib.Core.List.{List}
+use lib.Seq.{paste}
+use Rattle.plan.specs.Layout.{recordSize, ownerSlot, targetSlot, recordAt}
+use Rattle.collapse.specs.Fold.{joinedOf}
+use Rattle.collapse.proofs.RecordLaws.{joined-is}
+use Rattle.collapse.proofs.RunningLaws.{stored-in, stored-out}
+use borrow.Author.Needs.{needs}
+use Rattle.collapse.proofs.put_joined.Statement.{statement}
+use Rattle.collapse.proofs.put_joined.Tie as tie
+
+joined-address-requires : tie.Need-joined-address-requires
+joined-address-requires c κs = search needs
+
+row-requires : tie.Need-row-requires
+row-requires c κs = search needs
+
+owner-slot-requires : tie.Need-owner-slot-requires
+owner-slot-requires c κs = search needs
+
+row-requires-2 : tie.Need-row-requires-2
+row-requires-2 c κs = search needs
+
+target-slot-requires : tie.Need-target-slot-requires
+target-slot-requires c κs = search needs
+
+prefix-requires : tie.Need-prefix-requires
+prefix-requires c κs = search needs
+
+mul-write-a6 : tie.Need-mul-write-a6
+mul-write-a6 c = search needs
+
+write-a6-requires : tie.Need-write-a6-requires
+write-a6-requires c κs = search needs
+
+same-length : tie.Need-same-length
+same-length c = search needs
+
+returns : tie.Need-returns
+returns c =
+    let a = c .before .before .before .before .before .before .before .before .before .before .before .before .before .args in
+    let t = a .table .now in
+    let r = recordAt t (a .i) in
+    let q = recordAt t (a .j) in
+    let e = joined-is r q _ _ _ _ (c .before .before .before .before .prefix .ensures) (c .before .before .before .before .before .before .before .before .before .joined-address .ensures) (c .before .before .before .before .before .before .before .owner-slot .ensures .0 ∙ ap ownerSlot (c .before .before .before .before .before .before .before .before .row .ensures .0)) (c .before .before .before .before .before .target-slot .ensures .0 ∙ ap targetSlot (c .before .before .before .before .before .before .row2 .ensures .0)) in
+    c .before .before .write-a6 .ensures ∙ ap (λ (s : List ℕ). paste (a .out .now) (a .n * recordSize) s recordSize) e ∙ sym (stored-in (a .out .now) (a .n) (joinedOf r q) (c .before .before .before .before .before .before .before .before .before .before .if1 .taken))
+
+returns-2 : tie.Need-returns-2
+returns-2 c = let a = c .before .before .before .args in sym (stored-out (a .out .now) (a .n) (joinedOf (recordAt (a .table .now) (a .i)) (recordAt (a .table .now) (a .j))) (c .if1 .left))
+
+pub put-joined-spec : {M : Type 1} → statement M
+put-joined-spec =
+    tie.close
+    (tie.spec
+    joined-address-requires
+    row-requires
+    owner-slot-requires
+    row-requires-2
+    target-slot-requires
+    prefix-requires
+    mul-write-a6
+    write-a6-requires
+    same-length
+    returns
+    returns-2)

@@ -1,0 +1,210 @@
+-- Lookup by names is the search by numbers: the arrays that the search reads are the table's records, renamed. Assumes nothing.
+use Prim.Native.Nat.{ℕ, zero, suc, _-_, _*_, _/_, _%_, _≤_, _<_}
+use mathlib.Core.Path.{_≡_, refl, ap, _∙_, sym}
+use mathlib.Core.Bool.{Bool, true, false, _&&_}
+use mathlib.Core.List.{List, []}
+use lib.Dec.{eqb}
+use lib.ListN.{length, getD, take}
+use lib.Seq.{length-take-le, getD-take, take-append-seam}
+use native.Mathlib.Omega.{arith}
+use borrow.Author.Tests.{ne-eqb, eq-eqb}
+use Rattle.octets.specs.Octets.{blank, Small}
+use Rattle.octets.specs.Answers.{refusal}
+use Rattle.names.specs.Scan.{wellFormed}
+use Rattle.names.specs.Standard.{standardOf}
+use Rattle.names.specs.Name.{nameOf, heldOf}
+use Rattle.names.specs.declared.Name.{Name}
+use Rattle.names.proofs.NameLaws.{held-formed, held-malformed}
+use Rattle.names.proofs.RoundLaws.{standard-formed}
+use Rattle.octets.proofs.OctetLaws.{nil-of-length}
+use Rattle.chains.specs.Lists.{pick}
+use Rattle.chains.specs.Graph.{Graph}
+use Rattle.chains.specs.Listing.{workOf}
+use Rattle.chains.specs.Addresses.{addressesOf}
+use Rattle.chains.specs.Renaming.{Alike, Renamed}
+use Rattle.chains.proofs.RenamingLaws.{renaming}
+use Rattle.plan.specs.Layout.{maxRecords, isA6, countOf, recordAt, prefixAt}
+use Rattle.plan.specs.Check.{checkOf, InOrder}
+use Rattle.plan.proofs.OrderLaws.{order-count, order-good}
+use Rattle.plan.proofs.FaultLaws.{targetless-on}
+use Rattle.numbering.specs.Numbers.{numberIn, namesOf, ownNumber, targetNumber}
+use Rattle.plan.specs.Graph.{graphOf}
+use Rattle.numbering.specs.Graph.{ownsNumbered, numbered}
+use Rattle.numbering.proofs.NumberLaws.{number-most}
+use Rattle.numbering.proofs.NamesLaws.{own-listed, target-listed, number-standard}
+use Rattle.numbering.proofs.OrderLaws.{names-fit}
+use Rattle.numbering.proofs.GraphLaws.{lookup-renamed}
+use Rattle.forward.specs.Gather.{noOwner, Rows}
+use Rattle.forward.specs.Search.{Records, records}
+use Rattle.forward.specs.Search as search′
+use Rattle.forward.specs.Links.{maxNames, Numbered}
+use Rattle.forward.specs.Answers.{numberOf, answerOf, outputOf}
+use Rattle.forward.specs.Lookup.{lookupNumber, lookupAnswer, lookupOut}
+
+-- the answer looks at the work and the addresses alone
+module _ {N M : Type 0} (g : Graph N) (h : Graph M) (x : N) (y : M) (w : workOf g x ≡ workOf h y) (a : addressesOf g x ≡ addressesOf h y) where
+  pub number-like : (limit room : ℕ) → numberOf g x limit room ≡ numberOf h y limit room
+  unfolding numberOf
+  number-like limit room = rw (w, a)
+
+  pub answer-like : (k : ℕ) → answerOf g x k ≡ answerOf h y k
+  unfolding answerOf
+  answer-like zero = rw (w, a)
+  answer-like (suc k) = refl
+
+  pub output-like : (k size : ℕ) → outputOf g x k size ≡ outputOf h y k size
+  unfolding outputOf
+  output-like zero size = rw a
+  output-like (suc k) size = refl
+
+-- what the arrays hold once they are filled
+pub record Filled (t owners targets lengths addresses : List ℕ) : Type 0 where
+  pub owner : (i : ℕ) → i < countOf t → getD owners i 0 ≡ pick (isA6 (recordAt t i)) (ownNumber t i) noOwner
+  pub target : (i : ℕ) → i < countOf t → getD targets i 0 ≡ targetNumber t i
+  pub len : (i : ℕ) → i < countOf t → getD lengths i 0 ≡ prefixAt t i
+  pub rows : Rows t addresses (countOf t)
+  pub owners-long : countOf t ≤ length owners
+  pub octets : length addresses ≡ maxRecords * 16
+
+module _ (t owners targets lengths addresses : List ℕ) (o : InOrder t) (f : Filled t owners targets lengths addresses) where
+  abbrev read : Records
+  read = records (take (countOf t) owners) targets lengths addresses
+
+  read-size : length (take (countOf t) owners) ≡ countOf t
+  read-size = length-take-le (countOf t) owners (f .owners-long)
+
+  read-owner : (i : ℕ) → i < countOf t → getD (take (countOf t) owners) i 0 ≡ pick (isA6 (recordAt t i)) (ownNumber t i) noOwner
+  read-owner i h = getD-take (countOf t) owners i 0 h ∙ f .owner i h
+
+  own-small : (i : ℕ) → i < countOf t → getD (take (countOf t) owners) i 0 < maxNames
+  own-small i h = rw (read-owner i h) (go (isA6 (recordAt t i)))
+    where
+      go : (b : Bool) → pick b (ownNumber t i) noOwner < maxNames
+      go true = let l = own-listed t i h in let m = names-fit t o in omega arith
+      go false = omega arith
+
+  target-small : (i : ℕ) → i < countOf t → 0 < prefixAt t i → targetNumber t i ≤ 2048
+  target-small i h p =
+      let l = target-listed t i h (targetless-on (recordAt t i) (λ e. omega arith)) in
+      let m = names-fit t o in omega arith
+
+  -- the search may run over them
+  pub read-numbered : Numbered read
+  read-numbered = record {
+    owned = record { few = rw read-size (order-count t o); owner = λ j h. own-small j (rw read-size at h) };
+    target = λ j h p.
+        let k : j < countOf t = rw read-size at h in
+        let q : 0 < prefixAt t j = rw (f .len j k) at p in
+        rw (f .target j k) (let l = target-small j k q in omega arith);
+    short = λ j h. let k : j < countOf t = rw read-size at h in rw (f .len j k) (order-good t o j k .prefix);
+    octets = f .octets;
+  }
+
+  -- a number that a name can have owns the same records
+  read-alike : (k : ℕ) → k ≤ 2048 → Alike (numbered t) (search′.graphOf read) k k
+  unfolding ownsNumbered
+  read-alike k l i h = rw (read-owner i h) (go (isA6 (recordAt t i)))
+    where
+      go : (b : Bool) → (b && eqb (ownNumber t i) k) ≡ eqb (pick b (ownNumber t i) noOwner) k
+      go true = refl
+      go false = sym (ne-eqb noOwner k (λ e. omega arith))
+
+  read-renamed : Renamed (numbered t) (search′.graphOf read)
+  read-renamed = record {
+    sizes = sym read-size;
+    lengths = λ i h. sym (f .len i h);
+    addresses = λ i h. sym (f .rows .row i h);
+    targets = λ i h p. rw (f .target i h) (read-alike (targetNumber t i) (target-small i h p));
+  }
+
+  module _ (x : List ℕ) where
+    number-small : numberIn (namesOf t) x ≤ 2048
+    number-small = let l = number-most (namesOf t) x in let m = names-fit t o in omega arith
+
+    pub number-below : numberIn (namesOf t) x < maxNames
+    number-below = let l = number-small in omega arith
+
+    pub work-read : workOf (graphOf t) x ≡ workOf (search′.graphOf read) (numberIn (namesOf t) x)
+    work-read = lookup-renamed t x .1 ∙ renaming (numbered t) (search′.graphOf read) read-renamed (numberIn (namesOf t) x) (numberIn (namesOf t) x) (read-alike (numberIn (namesOf t) x) number-small) .1
+
+    pub addresses-read : addressesOf (graphOf t) x ≡ addressesOf (search′.graphOf read) (numberIn (namesOf t) x)
+    addresses-read = lookup-renamed t x .2 ∙ renaming (numbered t) (search′.graphOf read) read-renamed (numberIn (namesOf t) x) (numberIn (namesOf t) x) (read-alike (numberIn (namesOf t) x) number-small) .2
+
+-- a name and its standard form have the same work and addresses
+module _ (t x : List ℕ) (s : Small x) (w : wellFormed x ≡ true) where
+  pub work-standard : workOf (graphOf t) (standardOf x) ≡ workOf (graphOf t) x
+  work-standard = lookup-renamed t (standardOf x) .1 ∙ ap (workOf (numbered t)) (number-standard (namesOf t) x s w) ∙ sym (lookup-renamed t x .1)
+
+  pub addresses-standard : addressesOf (graphOf t) (standardOf x) ≡ addressesOf (graphOf t) x
+  addresses-standard = lookup-renamed t (standardOf x) .2 ∙ ap (addressesOf (numbered t)) (number-standard (namesOf t) x s w) ∙ sym (lookup-renamed t x .2)
+
+-- each number in turn
+module _ (t name : List ℕ) (limit size : ℕ) where
+  pub lookup-table : (checkOf t ≡ 0 → ⊥) → lookupNumber t name limit size ≡ checkOf t
+  unfolding lookupNumber
+  lookup-table h = rw (ne-eqb (checkOf t) 0 h)
+
+  module _ (o : checkOf t ≡ 0) where
+    pub lookup-name : wellFormed name ≡ false → lookupNumber t name limit size ≡ 4
+    unfolding lookupNumber
+    lookup-name w = rw (eq-eqb (checkOf t) 0 o, w)
+
+    module _ (w : wellFormed name ≡ true) where
+      pub lookup-size : (size % 16 ≡ 0 → ⊥) → lookupNumber t name limit size ≡ 5
+      unfolding lookupNumber
+      lookup-size h = rw (eq-eqb (checkOf t) 0 o, w, ne-eqb (size % 16) 0 h)
+
+      pub lookup-on : size % 16 ≡ 0 → lookupNumber t name limit size ≡ numberOf (graphOf t) name limit (size / 16)
+      unfolding lookupNumber
+      lookup-on h = rw (eq-eqb (checkOf t) 0 o, w, eq-eqb (size % 16) 0 h)
+
+  pub lookup-refused : (k : ℕ) → lookupNumber t name limit size ≡ suc k → (refusal (suc k) ≡ lookupAnswer t name limit size) × (blank size ≡ lookupOut t name limit size)
+  unfolding lookupAnswer lookupOut answerOf outputOf
+  lookup-refused k e = (rw e, rw e)
+
+  pub lookup-refusing : (k : ℕ) → (k ≡ 0 → ⊥) → lookupNumber t name limit size ≡ k → (refusal k ≡ lookupAnswer t name limit size) × (blank size ≡ lookupOut t name limit size)
+  lookup-refusing zero h e = absurd (h refl)
+  lookup-refusing (suc k) h e = lookup-refused k e
+
+  -- the search of the standard form answers for the name
+  module _ (o : checkOf t ≡ 0) (s : Small name) (w : wellFormed name ≡ true) (h : size % 16 ≡ 0) where
+    number : ℕ
+    number = numberOf (graphOf t) (standardOf name) limit (size / 16)
+
+    number-is : number ≡ lookupNumber t name limit size
+    unfolding number
+    number-is = number-like (graphOf t) (graphOf t) (standardOf name) name (work-standard t name s w) (addresses-standard t name s w) limit (size / 16) ∙ sym (lookup-on o w h)
+
+    pub lookup-answered : answerOf (graphOf t) (standardOf name) (numberOf (graphOf t) (standardOf name) limit (size / 16)) ≡ lookupAnswer t name limit size
+    unfolding lookupAnswer number
+    lookup-answered = answer-like (graphOf t) (graphOf t) (standardOf name) name (work-standard t name s w) (addresses-standard t name s w) number ∙ ap (answerOf (graphOf t) name) number-is
+
+    pub lookup-written : outputOf (graphOf t) (standardOf name) (numberOf (graphOf t) (standardOf name) limit (size / 16)) size ≡ lookupOut t name limit size
+    unfolding lookupOut number
+    lookup-written = output-like (graphOf t) (graphOf t) (standardOf name) name (work-standard t name s w) (addresses-standard t name s w) number size ∙ ap (λ (k : ℕ). outputOf (graphOf t) name k size) number-is
+
+-- what the value that holds a given name tells
+module _ (x : List ℕ) where
+  pub held-well : (heldOf x .length ≡ 0 → ⊥) → wellFormed x ≡ true
+  unfolding nameOf
+  held-well h = go (wellFormed x) refl
+    where
+      go : (b : Bool) → wellFormed x ≡ b → wellFormed x ≡ true
+      go true w = w
+      go false w = absurd (h (ap (λ (n : Name). n .length) (held-malformed x w)))
+
+  pub held-not : Small x → heldOf x .length ≡ 0 → wellFormed x ≡ false
+  unfolding nameOf wellFormed
+  held-not s h = go (wellFormed x) refl
+    where
+      go : (b : Bool) → wellFormed x ≡ b → wellFormed x ≡ false
+      go true w =
+          let e : length (standardOf x) ≡ 0 = sym (ap (λ (n : Name). n .length) (held-formed x w)) ∙ h in
+          let z : wellFormed [] ≡ true = ap wellFormed (sym (nil-of-length (standardOf x) e)) ∙ standard-formed x s w in
+          let y : _≡_ {A = ℕ} 0 1 = cc in
+          let v : ⊥ = omega arith in absurd v
+      go false w = w
+
+  pub held-name : wellFormed x ≡ true → take (heldOf x .length) (heldOf x .octets) ≡ standardOf x
+  unfolding nameOf
+  held-name w = rw (held-formed x w) (take-append-seam (standardOf x) (blank (255 - length (standardOf x))))

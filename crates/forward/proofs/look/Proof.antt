@@ -1,0 +1,137 @@
+-- `forward::look` meets its contract: the arrays are the table's records, renamed. Assumes nothing.
+use Prim.Native.Nat.{ℕ, _/_}
+use mathlib.Core.Path.{_≡_, ap, _∙_, sym}
+use mathlib.Core.List.{List}
+use lib.ListN.{length, getD, take}
+use lib.Seq.{length-take-le}
+use native.Mathlib.Omega.{arith}
+use Rattle.chains.specs.Lists.{pick}
+use Rattle.plan.specs.Layout.{isA6, countOf, recordAt, prefixAt}
+use Rattle.plan.proofs.OrderLaws.{order-count}
+use Rattle.numbering.specs.Numbers.{numberIn, namesOf, ownNumber, targetNumber}
+use Rattle.plan.specs.Graph.{graphOf}
+use Rattle.numbering.proofs.NamesLaws.{filled-at}
+use Rattle.forward.specs.Gather.{noOwner, searchOwner}
+use Rattle.forward.specs.Search as search′
+use Rattle.forward.specs.Answers.{numberOf, answerOf, outputOf}
+use Rattle.forward.proofs.LookupLaws.{Filled, number-like, answer-like, output-like, read-numbered, number-below, work-read, addresses-read}
+use borrow.Author.Needs.{needs}
+use Rattle.forward.proofs.look.Statement.{statement}
+use Rattle.forward.proofs.look.Tie as tie
+
+slice-aggregate-number : tie.Need-slice-aggregate-number
+slice-aggregate-number c = search needs
+
+slice-aggregate-number-2 : tie.Need-slice-aggregate-number-2
+slice-aggregate-number-2 c = search needs
+
+number-requires : tie.Need-number-requires
+number-requires c κs =
+    let p = c .before .before .before .before .before .pre in
+    let n = order-count (c .before .before .before .before .before .args .table .now) (p .0 .0) in
+    (p .0, (n, n))
+
+slice-aggregate-set-owners : tie.Need-slice-aggregate-set-owners
+slice-aggregate-set-owners c = search needs
+
+set-owners-requires : tie.Need-set-owners-requires
+set-owners-requires c κs =
+    let n = order-count (c .before .before .before .before .before .before .before .before .before .args .table .now) (c .before .before .before .before .before .before .before .before .before .pre .0 .0) in
+    let k : length (c .before .before .before .number .last .1 .1 .0) ≡ 1024 = c .before .before .before .number .kept .1 .1 .0 in
+    omega arith
+
+slice-aggregate-set-lengths : tie.Need-slice-aggregate-set-lengths
+slice-aggregate-set-lengths c = search needs
+
+set-lengths-requires : tie.Need-set-lengths-requires
+set-lengths-requires c κs = order-count (c .before .before .before .before .before .before .before .before .before .before .before .before .args .table .now) (c .before .before .before .before .before .before .before .before .before .before .before .before .pre .0 .0)
+
+slice-aggregate-set-addresses : tie.Need-slice-aggregate-set-addresses
+slice-aggregate-set-addresses c = search needs
+
+set-addresses-requires : tie.Need-set-addresses-requires
+set-addresses-requires c κs = let n = order-count (c .before .before .before .before .before .before .before .before .before .before .before .before .before .before .before .args .table .now) (c .before .before .before .before .before .before .before .before .before .before .before .before .before .before .before .pre .0 .0) in omega arith
+
+count-requires : tie.Need-count-requires
+count-requires c κs = search needs
+
+-- what the arrays hold before the search
+filled-up : (c : tie.After-count) → Filled (c .before .before .before .before .before .before .before .before .before .before .before .before .before .before .before .before .before .before .args .table .now) (c .before .before .before .before .before .before .before .before .set-owners .last .1 .0) (c .before .before .before .before .before .before .before .before .before .before .before .before .number .last .1 .1 .1 .0) (c .before .before .before .before .before .set-lengths .last .1 .0) (c .before .before .set-addresses .last .1 .0)
+filled-up c =
+    let t = c .before .before .before .before .before .before .before .before .before .before .before .before .before .before .before .before .before .before .args .table .now in
+    let o = c .before .before .before .before .before .before .before .before .before .before .before .before .before .before .before .before .before .before .pre .0 .0 in
+    let n = order-count t o in
+    let numbers = c .before .before .before .before .before .before .before .before .before .before .before .before .number in
+    let k : length (numbers .last .1 .1 .0) ≡ 1024 = numbers .kept .1 .1 .0 in
+    let l : length (c .before .before .before .before .before .before .before .before .set-owners .last .1 .0) ≡ length (numbers .last .1 .1 .0) = c .before .before .before .before .before .before .before .before .set-owners .kept .1 .0 in
+    record {
+      owner = λ i h.
+          ap (λ (l : List ℕ). getD l i 0) (c .before .before .before .before .before .before .before .before .set-owners .ensures)
+          ∙ filled-at (searchOwner t (numbers .last .1 .1 .0)) (numbers .last .1 .1 .0) (countOf t) i h (omega arith)
+          ∙ ap (λ (m : ℕ). pick (isA6 (recordAt t i)) m noOwner)
+          (ap (λ (l : List ℕ). getD l i 0) (numbers .ensures .1 .0) ∙ filled-at (ownNumber t) _ (countOf t) i h n);
+      target = λ i h. ap (λ (l : List ℕ). getD l i 0) (numbers .ensures .1 .1) ∙ filled-at (targetNumber t) _ (countOf t) i h n;
+      len = λ i h. ap (λ (l : List ℕ). getD l i 0) (c .before .before .before .before .before .set-lengths .ensures) ∙ filled-at (prefixAt t) _ (countOf t) i h n;
+      rows = c .before .before .set-addresses .ensures;
+      owners-long = omega arith;
+      octets = c .before .before .set-addresses .kept .1 .0;
+    }
+
+array-share-prefix-owners : tie.Need-array-share-prefix-owners
+array-share-prefix-owners c = rw (c .count .ensures) (filled-up c .owners-long)
+
+slice-aggregate-find : tie.Need-slice-aggregate-find
+slice-aggregate-find c = sym (length-take-le (c .before .count .result) (c .before .before .before .before .before .before .before .before .before .set-owners .last .1 .0) (rw (c .before .count .ensures) (filled-up (c .before) .owners-long)))
+
+find-requires : tie.Need-find-requires
+find-requires c κs =
+    let t = c .before .before .before .before .before .before .before .before .before .before .before .before .before .before .before .before .before .before .before .before .before .before .before .args .table .now in
+    let o = c .before .before .before .before .before .before .before .before .before .before .before .before .before .before .before .before .before .before .before .before .before .before .before .pre .0 .0 in (
+      (
+        rw (c .before .before .before .before .before .count .ensures) (read-numbered t _ _ _ _ o (filled-up (c .before .before .before .before .before))),
+        rw (c .before .before .before .before .before .before .before .before .before .before .before .before .before .before .before .before .before .number .ensures .0) (number-below t _ _ _ _ o (filled-up (c .before .before .before .before .before)) (c .before .before .before .before .before .before .before .before .before .before .before .before .before .before .before .before .before .before .before .before .before .before .before .args .name .now)),
+      ),
+      c .before .before .before .before .before .before .before .before .before .before .before .before .before .before .before .before .before .before .before .before .before .before .before .pre .1,
+    )
+
+same-length : tie.Need-same-length
+same-length c = search needs
+
+returns : tie.Need-returns
+returns c =
+    let t = c .before .before .before .before .before .before .before .before .before .before .before .before .before .before .before .before .before .before .before .before .before .before .before .before .before .before .args .table .now in
+    let o = c .before .before .before .before .before .before .before .before .before .before .before .before .before .before .before .before .before .before .before .before .before .before .before .before .before .before .pre .0 .0 in
+    let x = c .before .before .before .before .before .before .before .before .before .before .before .before .before .before .before .before .before .before .before .before .before .before .before .before .before .before .args .name .now in
+    let limit = c .before .before .before .before .before .before .before .before .before .before .before .before .before .before .before .before .before .before .before .before .before .before .before .before .before .before .args .limit in
+    let size = length (c .before .before .before .before .before .before .before .before .before .before .before .before .before .before .before .before .before .before .before .before .before .before .before .before .before .before .args .out .now) in
+    let full = filled-up (c .before .before .before .before .before .before .before .before) in
+    let y = numberIn (namesOf t) x in
+    let h = search′.graphOf (search′.records (take (countOf t) (c .before .before .before .before .before .before .before .before .before .before .before .before .before .before .before .before .set-owners .last .1 .0)) (c .before .before .before .before .before .before .before .before .before .before .before .before .before .before .before .before .before .before .before .before .number .last .1 .1 .1 .0) (c .before .before .before .before .before .before .before .before .before .before .before .before .before .set-lengths .last .1 .0) (c .before .before .before .before .before .before .before .before .before .before .set-addresses .last .1 .0)) in
+    let w = work-read t _ _ _ _ o full x in
+    let a = addresses-read t _ _ _ _ o full x in
+    let found = c .before .before .find .ensures in
+    let turned = rw (c .before .before .before .before .before .before .before .before .count .ensures, c .before .before .before .before .before .before .before .before .before .before .before .before .before .before .before .before .before .before .before .before .number .ensures .0) at found in (
+      turned .0 ∙ sym (answer-like (graphOf t) h x y w a (numberOf (graphOf t) x limit (size / 16)) ∙ ap (answerOf h y) (number-like (graphOf t) h x y w a limit (size / 16))),
+      turned .1
+          ∙ sym (output-like (graphOf t) h x y w a (numberOf (graphOf t) x limit (size / 16)) size ∙ ap (λ (k : ℕ). outputOf h y k size) (number-like (graphOf t) h x y w a limit (size / 16))),
+    )
+
+pub look-spec : {M : Type 1} → statement M
+look-spec =
+    tie.close
+    (tie.spec
+    slice-aggregate-number
+    slice-aggregate-number-2
+    number-requires
+    slice-aggregate-set-owners
+    set-owners-requires
+    slice-aggregate-set-lengths
+    set-lengths-requires
+    slice-aggregate-set-addresses
+    set-addresses-requires
+    count-requires
+    array-share-prefix-owners
+    slice-aggregate-find
+    find-requires
+    same-length
+    returns)

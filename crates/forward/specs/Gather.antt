@@ -1,0 +1,19 @@
+-- The records of a table in arrays, as the search reads them: the code's own, nothing that a reader must believe. Assumes nothing.
+use Prim.Native.Nat.{ℕ, _*_, _<_}
+use mathlib.Core.Path.{_≡_}
+use mathlib.Core.List.{List}
+use lib.ListN.{getD, take, drop}
+use Rattle.chains.specs.Lists.{pick}
+use Rattle.plan.specs.Layout.{isA6, recordAt, addressAt}
+
+-- a number that no name has, for a record that no name owns in the search
+abbrev pub noOwner : ℕ
+noOwner = 2303
+
+-- the owner of the record at i in the search: that of the list for an A6 record, none for a DNAME
+abbrev pub searchOwner : List ℕ → List ℕ → ℕ → ℕ
+searchOwner t owners i = pick (isA6 (recordAt t i)) (getD owners i 0) noOwner
+
+-- the first n rows of sixteen octets are the addresses of the records
+pub record Rows (t addresses : List ℕ) (n : ℕ) : Type 0 where
+  pub row : (i : ℕ) → i < n → take 16 (drop (i * 16) addresses) ≡ addressAt t i

@@ -1,0 +1,60 @@
+// Address lookup: every address of a name, by all its complete chains, loops included (01, Chains).
+ghost use mathlib.Core.Path.{_≡_};
+ghost use mathlib.Core.Bool.{true};
+ghost use Prim.Native.Nat.{_/_, _%_};
+ghost use lib.ListN.{length};
+ghost use Rattle.octets.specs.Octets.{blank};
+ghost use Rattle.names.specs.Standard.{inStandardForm};
+ghost use Rattle.plan.specs.Check.{InOrder};
+ghost use Rattle.plan.specs.Graph.{graphOf};
+ghost use Rattle.forward.specs.Answers.{numberOf, answerOf, outputOf};
+ghost use Rattle.forward.specs.Lookup.{lookupAnswer, lookupOut};
+
+// The addresses of a name in ascending order without repeats, sixteen octets each, then zeros; their count and the work.
+// 1, 2 or 3 for the table, 4 for a malformed name, 5 for an output that is no multiple of 16 octets, 6 for more work than the limit,
+// 7 for more addresses than room.
+pub fn lookup(table: &[u8], name: &[u8], limit: u32, out: &mut [u8]) -> octets::Answer
+    ensures answer { λ r. ⌜ r ≡ lookupAnswer (now (table .entry)) (now (name .entry)) limit (length (now (out .entry))) ⌝ }
+    ensures output { λ _. ⌜ now (out .exit) ≡ lookupOut (now (table .entry)) (now (name .entry)) limit (length (now (out .entry))) ⌝ }
+{
+    octets::clear(out);
+    let checked = plan::check(table);
+    let number = checked.number;
+    if number != 0 {
+        return octets::refused(number);
+    }
+    let held = names::hold(name);
+    let octets = held.octets;
+    let length = octets::wide(held.length);
+    if length == 0 {
+        return octets::refused(4);
+    }
+    if out.len() % 16 != 0 {
+        return octets::refused(5);
+    }
+    look(table, &octets[..length], limit, out)
+}
+
+// The same for a table in order, a name in standard form and an output of zeros: names become numbers, and the search runs over these.
+fn look(table: &[u8], name: &[u8], limit: u32, out: &mut [u8]) -> octets::Answer
+    requires { ⌜ (InOrder (now table)) × (inStandardForm (now name) ≡ true) ⌝ }
+    requires { ⌜ (length (now out) % 16 ≡ 0) × (now out ≡ blank (length (now out))) ⌝ }
+    ensures { λ r. ⌜ r ≡ answerOf (graphOf (now (table .entry))) (now (name .entry)) (numberOf (graphOf (now (table .entry))) (now (name .entry)) limit (length (now (out .entry)) / 16)) ⌝ }
+    ensures { λ _. ⌜ now (out .exit) ≡ outputOf (graphOf (now (table .entry))) (now (name .entry)) (numberOf (graphOf (now (table .entry))) (now (name .entry)) limit (length (now (out .entry)) / 16)) (length (now (out .entry))) ⌝ }
+{
+    let mut owners = [0u16; inside::RECORDS];
+    let mut targets = [0u16; inside::RECORDS];
+    let mut lengths = [0u8; inside::RECORDS];
+    let mut addresses = [0u8; inside::OCTETS];
+    let x = numbering::inside::number(table, name, &mut owners, &mut targets);
+    gather::set_owners(table, &mut owners);
+    gather::set_lengths(table, &mut lengths);
+    gather::set_addresses(table, &mut addresses);
+    let n = plan::inside::count(table);
+    inside::find(&owners[..n], &targets, &lengths, &addresses, x, limit, out)
+}
+
+mod gather;
+pub mod inside;
+mod links;
+mod rows;

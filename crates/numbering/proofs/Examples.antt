@@ -1,0 +1,74 @@
+-- A table numbered, by computation. Assumes nothing.
+use Prim.Native.Nat.{ℕ}
+use mathlib.Core.Path.{_≡_, refl}
+use mathlib.Core.List.{List, [], _∷_, map}
+use Rattle.octets.specs.Octets.{blank}
+use Rattle.plan.specs.Layout.{addressSize, slotSize, a6, dname, prefixOf, targetSlot, slotOf, recordOf, countOf, octetsOf}
+use Rattle.plan.specs.Check.{checkOf}
+use Rattle.chains.specs.Lists.{upTo}
+use Rattle.chains.specs.Listing.{free, extend, paths, chainsFrom, chainsOf}
+use Rattle.numbering.specs.Numbers.{numberIn, namesOf, ownNumber, targetNumber}
+use Rattle.plan.specs.Graph.{graphOf, ownsA6}
+use Rattle.numbering.specs.Graph.{ownsNumbered, numbered}
+
+-- names: h.a, p.a, q.a, z.a, and a name of sixteen bits in one bit label and in two
+ha : List ℕ
+ha = 1 ∷ 104 ∷ 1 ∷ 97 ∷ 0 ∷ []
+
+pa : List ℕ
+pa = 1 ∷ 112 ∷ 1 ∷ 97 ∷ 0 ∷ []
+
+qa : List ℕ
+qa = 1 ∷ 113 ∷ 1 ∷ 97 ∷ 0 ∷ []
+
+za : List ℕ
+za = 1 ∷ 122 ∷ 1 ∷ 97 ∷ 0 ∷ []
+
+whole : List ℕ
+whole = 65 ∷ 16 ∷ 1 ∷ 2 ∷ 0 ∷ []
+
+halves : List ℕ
+halves = 65 ∷ 8 ∷ 2 ∷ 65 ∷ 8 ∷ 1 ∷ 0 ∷ []
+
+zeros : List ℕ
+unfolding blank
+zeros = blank addressSize
+
+none : List ℕ
+unfolding blank
+none = blank slotSize
+
+-- h.a leads to p.a; p.a is finished, and leads to itself and to the bits; a DNAME of q.a comes between
+plan : List ℕ
+unfolding octetsOf recordOf slotOf ha pa qa whole zeros none
+plan = octetsOf (
+    recordOf a6 64 zeros (slotOf ha) (slotOf pa) ∷ recordOf a6 0 zeros (slotOf pa) none ∷ recordOf dname 0 zeros (slotOf qa) (slotOf ha)
+    ∷ recordOf a6 48 zeros (slotOf pa) (slotOf pa) ∷ recordOf a6 32 zeros (slotOf pa) (slotOf whole) ∷ [])
+
+in-order : checkOf plan ≡ 0
+unfolding checkOf plan
+in-order = refl
+
+names : namesOf plan ≡ ha ∷ pa ∷ qa ∷ whole ∷ []
+unfolding namesOf plan ha pa qa whole
+names = refl
+
+-- owners, targets, and names that are given
+numbers : map (ownNumber plan) (0 ∷ 1 ∷ 2 ∷ 3 ∷ 4 ∷ []) ≡ 0 ∷ 1 ∷ 2 ∷ 1 ∷ 1 ∷ []
+unfolding ownNumber plan
+numbers = refl
+
+targets : map (targetNumber plan) (0 ∷ 1 ∷ 2 ∷ 3 ∷ 4 ∷ []) ≡ 1 ∷ 65535 ∷ 0 ∷ 1 ∷ 3 ∷ []
+unfolding targetNumber plan
+targets = refl
+
+given : map (numberIn (namesOf plan)) (qa ∷ whole ∷ halves ∷ za ∷ []) ≡ 2 ∷ 3 ∷ 3 ∷ 4 ∷ []
+unfolding numberIn namesOf plan qa whole halves za
+given = refl
+
+-- the chains of h.a, by name and by number; the DNAME is in none
+chains : chainsOf (graphOf plan) ha ∷ chainsOf (numbered plan) 0 ∷ []
+    ≡ ((0 ∷ []) ∷ (0 ∷ 1 ∷ []) ∷ (0 ∷ 3 ∷ []) ∷ (0 ∷ 3 ∷ 1 ∷ []) ∷ (0 ∷ 3 ∷ 4 ∷ []) ∷ (0 ∷ 4 ∷ []) ∷ [])
+    ∷ ((0 ∷ []) ∷ (0 ∷ 1 ∷ []) ∷ (0 ∷ 3 ∷ []) ∷ (0 ∷ 3 ∷ 1 ∷ []) ∷ (0 ∷ 3 ∷ 4 ∷ []) ∷ (0 ∷ 4 ∷ []) ∷ []) ∷ []
+unfolding chainsOf chainsFrom paths free extend upTo blank ownsA6 ownsNumbered targetNumber prefixOf countOf targetSlot plan ha
+chains = refl

@@ -1,0 +1,52 @@
+-- What a table in order gives: places that hold names, and a graph with sound addresses. Assumes nothing.
+use Prim.Native.Nat.{ℕ, _+_, _*_, _≤_, _<_}
+use mathlib.Core.Path.{_≡_}
+use mathlib.Core.Bool.{false}
+use mathlib.Core.List.{List}
+use native.Mathlib.Omega.{arith}
+use lib.ListN.{length}
+use Rattle.octets.specs.Octets.{Small}
+use Rattle.plan.specs.Layout.{countOf, recordAt}
+use Rattle.plan.specs.Check.{targetless, InOrder}
+use Rattle.plan.proofs.LayoutLaws.{record-length, record-small}
+use Rattle.plan.proofs.OrderLaws.{order-count, order-good}
+use Rattle.plan.proofs.RecordLaws.{address-length, address-small}
+use Rattle.chains.specs.Graph.{Sound}
+use Rattle.chains.proofs.RenamingLaws.{sound-renamed}
+use Rattle.plan.specs.Graph.{graphOf}
+use Rattle.numbering.specs.Graph.{numbered}
+use Rattle.numbering.specs.Numbers.{namesOf}
+use Rattle.numbering.specs.Buckets.{maxNames, Named}
+use Rattle.numbering.proofs.NamesLaws.{names-few}
+use Rattle.numbering.proofs.HeldLaws.{name-owner, name-target}
+use Rattle.numbering.proofs.GraphLaws.{renamed}
+
+module _ (t : List ℕ) (o : InOrder t) where
+  pub names-fit : length (namesOf t) ≤ maxNames
+  names-fit = let m = order-count t o in let n = names-few t in omega arith
+
+  -- the places of a record's names
+  pub owner-named : (i : ℕ) → i < countOf t → Named t (2 * i)
+  owner-named i h = record {
+    inside = omega arith;
+    small = let m = order-count t o in omega arith;
+    standard = rw (name-owner t i) (order-good t o i h .owner .name);
+  }
+
+  pub target-named : (i : ℕ) → i < countOf t → targetless (recordAt t i) ≡ false → Named t (2 * i + 1)
+  target-named i h e = record {
+    inside = omega arith;
+    small = let m = order-count t o in omega arith;
+    standard = rw (name-target t i) (order-good t o i h .target e .name);
+  }
+
+  -- both graphs have addresses of sixteen octets and prefix lengths up to 128
+  pub sound-graph : Small t → Sound (graphOf t)
+  sound-graph s = record {
+    sixteen = λ i h. address-length (recordAt t i) (record-length t i h);
+    small = λ i h. address-small (recordAt t i) (record-small t i s);
+    short = λ i h. order-good t o i h .prefix;
+  }
+
+  pub sound-numbered : Small t → Sound (numbered t)
+  sound-numbered s = sound-renamed (graphOf t) (numbered t) (renamed t) (sound-graph s)

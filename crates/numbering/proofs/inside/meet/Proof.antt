@@ -1,0 +1,133 @@
+-- `numbering::inside::meet` meets its contract: a name that `find` finds is in the list, any other goes to its end. Assumes nothing.
+use Prim.Native.Nat.{_<_}
+use mathlib.Core.Path.{_≡_, ap, _∙_}
+use native.Mathlib.Omega.{arith}
+use borrow.Author.Needs.{needs}
+use denote.Ref.{now}
+use Rattle.numbering.specs.Numbers.{numberIn}
+use Rattle.numbering.specs.Buckets.{buckets, nameAt, held, bucketOf}
+use Rattle.numbering.proofs.ListingLaws.{bucket-small, meets-known, meets-new, number-new-is}
+use Rattle.numbering.proofs.inside.meet.Statement.{statement}
+use Rattle.numbering.proofs.inside.meet.Tie as tie
+
+-- the bucket of the name at the place
+bucket-is : (c : tie.After-bucket-of) → c .bucket-of .result ≡ bucketOf (nameAt (c .before .before .before .before .before .before .args .table .now) (c .before .before .before .before .before .before .args .place))
+bucket-is c = c .bucket-of .ensures ∙ ap bucketOf (c .before .name-at .ensures)
+
+bucket-fits : (c : tie.After-bucket-of) → c .bucket-of .result < buckets
+bucket-fits c = rw (bucket-is c) (bucket-small (nameAt (c .before .before .before .before .before .before .args .table .now) (c .before .before .before .before .before .before .args .place)))
+
+-- its number in the list
+number-is : (c : tie.After-find) → c .find .result ≡ numberIn (held (c .before .before .before .before .before .before .before .before .before .before .args .table .now) (c .before .before .before .before .before .before .before .before .before .before .args .places .now) (c .before .before .before .before .before .before .before .before .before .before .args .count)) (nameAt (c .before .before .before .before .before .before .before .before .before .before .args .table .now) (c .before .before .before .before .before .before .before .before .before .before .args .place))
+number-is c = c .find .ensures ∙ ap (numberIn (held (c .before .before .before .before .before .before .before .before .before .before .args .table .now) (c .before .before .before .before .before .before .before .before .before .before .args .places .now) (c .before .before .before .before .before .before .before .before .before .before .args .count))) (c .before .before .before .before .before .name-at .ensures)
+
+name-at-requires : tie.Need-name-at-requires
+name-at-requires c κs = search needs
+
+bucket-of-requires : tie.Need-bucket-of-requires
+bucket-of-requires c κs = rw (c .name-at .ensures) (c .before .before .before .before .before .pre .1 .standard)
+
+find-requires : tie.Need-find-requires
+find-requires c κs = (c .before .before .before .before .before .before .before .before .before .pre .0, rw (c .before .before .before .before .name-at .ensures) (c .before .before .before .before .before .before .before .before .before .pre .1 .standard), c .before .before .before .bucket-of .ensures)
+
+cast-t17 : tie.Need-cast-t17
+cast-t17 c = search needs
+
+same-length : tie.Need-same-length
+same-length c = search needs
+
+same-length-2 : tie.Need-same-length-2
+same-length-2 c = search needs
+
+same-length-3 : tie.Need-same-length-3
+same-length-3 c = search needs
+
+returns : tie.Need-returns
+returns c =
+    let a = c .before .before .before .before .before .before .before .before .before .before .before .args in
+    meets-known (a .table .now) (a .head .now) (a .link .now) (a .places .now) (a .count) (a .place) (c .before .before .before .before .before .before .before .before .before .before .before .pre .0) (c .before .find .result) (number-is (c .before)) (c .if1 .taken)
+
+mul-link : tie.Need-mul-link
+mul-link c = omega (arith, bucket-fits (c .before .before .before .before .before))
+
+slice-read-link : tie.Need-slice-read-link
+slice-read-link c = omega (arith, bucket-fits (c .before .before .before .before .before .before))
+
+mul-link-2 : tie.Need-mul-link-2
+mul-link-2 c = search needs
+
+slice-write-link : tie.Need-slice-write-link
+slice-write-link c = search needs
+
+add-head : tie.Need-add-head
+add-head c = search needs
+
+cast-head : tie.Need-cast-head
+cast-head c = search needs
+
+mul-head : tie.Need-mul-head
+mul-head c = omega (arith, bucket-fits (c .before .before .before .before .before .before))
+
+slice-write-head : tie.Need-slice-write-head
+slice-write-head c = omega (arith, bucket-fits (c .before .before .before .before .before .before))
+
+cast-places : tie.Need-cast-places
+cast-places c = search needs
+
+mul-places : tie.Need-mul-places
+mul-places c = search needs
+
+slice-write-places : tie.Need-slice-write-places
+slice-write-places c = search needs
+
+cast-t20 : tie.Need-cast-t20
+cast-t20 c = search needs
+
+add-t21 : tie.Need-add-t21
+add-t21 c = search needs
+
+same-length-4 : tie.Need-same-length-4
+same-length-4 c = search needs
+
+same-length-5 : tie.Need-same-length-5
+same-length-5 c = search needs
+
+same-length-6 : tie.Need-same-length-6
+same-length-6 c = search needs
+
+returns-2 : tie.Need-returns-2
+returns-2 c =
+    let a = c .before .before .before .before .before .before .before .before .before .before .before .before .args in
+    let w = c .before .before .before .before .before .before .before .before .before .before .before .before .pre in
+    let n = number-new-is (a .table .now) (a .head .now) (a .link .now) (a .places .now) (a .count) (a .place) (w .0) (c .before .before .find .result) (number-is (c .before .before)) (c .before .if1 .left) in
+    rw (bucket-is (c .before .before .before .before .before .before)) (meets-new (a .table .now) (a .head .now) (a .link .now) (a .places .now) (a .count) (a .place) (w .0) (w .2) (w .1) n)
+
+pub meet-spec : {M : Type 1} → statement M
+meet-spec =
+    tie.close
+    (tie.spec
+    name-at-requires
+    bucket-of-requires
+    find-requires
+    cast-t17
+    same-length
+    same-length-2
+    same-length-3
+    returns
+    mul-link
+    slice-read-link
+    mul-link-2
+    slice-write-link
+    add-head
+    cast-head
+    mul-head
+    slice-write-head
+    cast-places
+    mul-places
+    slice-write-places
+    cast-t20
+    add-t21
+    same-length-4
+    same-length-5
+    same-length-6
+    returns-2)

@@ -1,0 +1,189 @@
+// What only our own layers call: the numbers of names, for a search that never looks at a name.
+ghost use mathlib.Core.Path.{_≡_};
+ghost use mathlib.Core.Bool.{true};
+ghost use Prim.Native.Nat.{_+_, _*_, _≤_, _<_};
+ghost use lib.ListN.{length};
+ghost use Rattle.names.specs.Standard.{inStandardForm};
+ghost use Rattle.plan.specs.Layout.{countOf, recordAt};
+ghost use Rattle.plan.specs.Check.{targetless, InOrder};
+ghost use Rattle.numbering.specs.Numbers.{numberIn, meeting, meetingTarget, namesOf, ownNumber, targetIn, targetNumber, filled};
+ghost use Rattle.numbering.specs.Buckets.{maxNames, nameAt, Named, held, bucketOf, Listing, Meets, Complete};
+
+// The number that stands for no target.
+pub const NO_TARGET: u16 = 65535;
+
+// The type of an A6 record.
+const A6: u16 = 38;
+
+// The most names of a table, and how many buckets they are spread over.
+const NAMES: usize = 2048;
+
+const BUCKETS: usize = 4096;
+
+// The number of a name that was met, and how many names the list has then.
+pub struct Met {
+    pub number: u16,
+    pub count: usize,
+}
+
+// The number of each record's owner and target in the list of distinct names as first met, owner before target, and that of a given name:
+// the length of the list where no record has it.
+pub fn number(table: &[u8], name: &[u8], own: &mut [u16], target: &mut [u16]) -> usize
+    requires { ⌜ (InOrder (now table)) × (inStandardForm (now name) ≡ true) ⌝ }
+    requires { ⌜ (countOf (now table) ≤ length (now own)) × (countOf (now table) ≤ length (now target)) ⌝ }
+    ensures name { λ r. ⌜ r ≡ numberIn (namesOf (now (table .entry))) (now (name .entry)) ⌝ }
+    ensures owners { λ _. ⌜ now (own .exit) ≡ filled (ownNumber (now (table .entry))) (countOf (now (table .entry))) (now (own .entry)) ⌝ }
+    ensures targets { λ _. ⌜ now (target .exit) ≡ filled (targetNumber (now (table .entry))) (countOf (now (table .entry))) (now (target .entry)) ⌝ }
+{
+    let mut head = [0u16; BUCKETS];
+    let mut link = [0u16; NAMES];
+    let mut places = [0u16; NAMES];
+    let count = number_all(table, own, target, &mut head, &mut link, &mut places);
+    find(table, name, bucket_of(name), &head, &link, &places, count)
+}
+
+// The numbers of all owners and targets; the list of names is empty before and complete after. How many names it has.
+fn number_all(
+    table: &[u8],
+    own: &mut [u16],
+    target: &mut [u16],
+    head: &mut [u16],
+    link: &mut [u16],
+    places: &mut [u16],
+) -> usize
+    requires { ⌜ (InOrder (now table)) × (Listing (now table) (now head) (now link) (now places) 0) ⌝ }
+    requires { ⌜ (countOf (now table) ≤ length (now own)) × (countOf (now table) ≤ length (now target)) ⌝ }
+    ensures names { λ r. ⌜ Complete (now (table .entry)) (now (head .exit)) (now (link .exit)) (now (places .exit)) r ⌝ }
+    ensures owners { λ _. ⌜ now (own .exit) ≡ filled (ownNumber (now (table .entry))) (countOf (now (table .entry))) (now (own .entry)) ⌝ }
+    ensures targets { λ _. ⌜ now (target .exit) ≡ filled (targetNumber (now (table .entry))) (countOf (now (table .entry))) (now (target .entry)) ⌝ }
+{
+    let n = plan::inside::count(table);
+    let mut count: usize = 0;
+    let mut i: usize = 0;
+    while i < n {
+        let first = meet(table, 2 * i, head, link, places, count);
+        own[i] = first.number;
+        let second = meet_target(table, i, head, link, places, first.count);
+        target[i] = second.number;
+        count = second.count;
+        i += 1;
+    }
+    count
+}
+
+// The number of the target of the record at an index, which goes to the end of the list if it is not there; `NO_TARGET` where there is none.
+fn meet_target(
+    table: &[u8],
+    index: usize,
+    head: &mut [u16],
+    link: &mut [u16],
+    places: &mut [u16],
+    count: usize,
+) -> Met
+    requires { ⌜ (InOrder (now table)) × (Listing (now table) (now head) (now link) (now places) count) ⌝ }
+    requires { ⌜ (index < countOf (now table)) × (count < maxNames) ⌝ }
+    ensures { λ r. ⌜ Meets (now (table .entry)) count (targetIn (held (now (table .entry)) (now (places .entry)) count) (now (table .entry)) index)
+        (meetingTarget (now (table .entry)) index (held (now (table .entry)) (now (places .entry)) count)) (now (head .exit)) (now (link .exit)) (now (places .exit)) r ⌝ }
+{
+    if finished(table, index) {
+        return Met {
+            number: NO_TARGET,
+            count,
+        };
+    }
+    meet(table, 2 * index + 1, head, link, places, count)
+}
+
+// The number of the name at a place, which goes to the end of the list if it is not there.
+fn meet(
+    table: &[u8],
+    place: usize,
+    head: &mut [u16],
+    link: &mut [u16],
+    places: &mut [u16],
+    count: usize,
+) -> Met
+    requires { ⌜ (Listing (now table) (now head) (now link) (now places) count) × (Named (now table) place) × (count < maxNames) ⌝ }
+    ensures { λ r. ⌜ Meets (now (table .entry)) count (numberIn (held (now (table .entry)) (now (places .entry)) count) (nameAt (now (table .entry)) place))
+        (meeting (held (now (table .entry)) (now (places .entry)) count) (nameAt (now (table .entry)) place)) (now (head .exit)) (now (link .exit)) (now (places .exit)) r ⌝ }
+{
+    let name = name_at(table, place);
+    let bucket = bucket_of(name);
+    let number = find(table, name, bucket, head, link, places, count);
+    if number < count {
+        return Met {
+            number: number as u16,
+            count,
+        };
+    }
+    link[count] = head[bucket];
+    head[bucket] = (count + 1) as u16;
+    places[count] = place as u16;
+    Met {
+        number: count as u16,
+        count: count + 1,
+    }
+}
+
+// The number of a name in the list, its length where it is not there: the names of its bucket are compared with it, the last first.
+fn find(
+    table: &[u8],
+    name: &[u8],
+    bucket: usize,
+    head: &[u16],
+    link: &[u16],
+    places: &[u16],
+    count: usize,
+) -> usize
+    requires { ⌜ (Listing (now table) (now head) (now link) (now places) count) × (inStandardForm (now name) ≡ true) × (bucket ≡ bucketOf (now name)) ⌝ }
+    ensures { λ r. ⌜ r ≡ numberIn (held (now (table .entry)) (now (places .entry)) count) (now (name .entry)) ⌝ }
+{
+    let mut next = wide(head[bucket]);
+    while 0 < next {
+        let number = next - 1;
+        let listed = name_at(table, wide(places[number]));
+        if names::equal(listed, name) {
+            return number;
+        }
+        next = wide(link[number]);
+    }
+    count
+}
+
+// The name at a place, as a part of the table.
+fn name_at(table: &[u8], place: usize) -> &[u8]
+    requires { ⌜ Named (now table) place ⌝ }
+    ensures { λ r. ⌜ now r ≡ nameAt (now (table .entry)) place ⌝ }
+{
+    let index = place / 2;
+    if place % 2 == 0 {
+        return plan::inside::owner(table, index);
+    }
+    plan::inside::target(table, index)
+}
+
+// The bucket of a name.
+fn bucket_of(name: &[u8]) -> usize
+    requires { ⌜ inStandardForm (now name) ≡ true ⌝ }
+    ensures { λ r. ⌜ r ≡ bucketOf (now (name .entry)) ⌝ }
+{
+    wide(plan::inside::mark(name)) % BUCKETS
+}
+
+// Whether the record at an index is a finished A6 record, which has no target.
+fn finished(table: &[u8], index: usize) -> bool
+    requires { ⌜ index < countOf (now table) ⌝ }
+    ensures { λ r. ⌜ r ≡ targetless (recordAt (now (table .entry)) index) ⌝ }
+{
+    if plan::inside::kind(table, index) != A6 {
+        return false;
+    }
+    plan::inside::prefix(table, index) == 0
+}
+
+// A stored number as an index.
+fn wide(x: u16) -> usize
+    ensures { λ r. ⌜ r ≡ x ⌝ }
+{
+    x as usize
+}

@@ -1,0 +1,28 @@
+-- Lists of octets put together, and tests that earn no number. Assumes nothing.
+use Prim.Native.Nat.{ℕ, zero, suc}
+use mathlib.Core.Path.{_≡_, refl}
+use mathlib.Core.Bool.{Bool, true, false}
+use mathlib.Core.List.{List, [], _∷_, _++_}
+use lib.ListN.{getD}
+use native.Mathlib.Omega.{arith}
+use Rattle.octets.specs.Octets.{blank, Small}
+use Rattle.octets.specs.Answers.{earns}
+
+pub small-append : (xs ys : List ℕ) → Small xs → Small ys → Small (xs ++ ys)
+small-append [] ys h k i = k i
+small-append (x ∷ xs) ys h k zero = h 0
+small-append (x ∷ xs) ys h k (suc i) = small-append xs ys (λ j. h (suc j)) k i
+
+pub getD-blank : (n i : ℕ) → getD (blank n) i 0 ≡ 0
+unfolding blank
+getD-blank zero i = refl
+getD-blank (suc n) zero = refl
+getD-blank (suc n) (suc i) = getD-blank n i
+
+pub small-blank : (n : ℕ) → Small (blank n)
+small-blank n i = rw (getD-blank n i) (omega arith)
+
+-- where a list of tests earns 0, its first test fails, and the later ones earn 0
+pub earns-zero : (b : Bool) (n later : ℕ) → earns b (suc n) later ≡ 0 → (b ≡ false) × (later ≡ 0)
+earns-zero true n later e = let z : ⊥ = omega arith in absurd z
+earns-zero false n later e = (refl, e)

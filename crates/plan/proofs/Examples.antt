@@ -1,0 +1,129 @@
+-- Tables checked, by computation. Assumes nothing.
+use Prim.Native.Nat.{ℕ}
+use mathlib.Core.Path.{_≡_, refl}
+use mathlib.Core.List.{List, [], _∷_, _++_, map}
+use lib.ListN.{take, drop, set}
+use Rattle.octets.specs.Octets.{blank}
+use Rattle.plan.specs.Layout.{slotSize, addressSize, a6, dname, slotOf, recordOf, octetsOf, recordsOf}
+use Rattle.plan.specs.Check.{faultOf, checkOf}
+use Rattle.plan.specs.Part.{ownerPart}
+
+-- names: the root, h.a, p.a, two bit labels side by side, and a name that is cut off
+root : List ℕ
+root = 0 ∷ []
+
+ha : List ℕ
+ha = 1 ∷ 104 ∷ 1 ∷ 97 ∷ 0 ∷ []
+
+pa : List ℕ
+pa = 1 ∷ 112 ∷ 1 ∷ 97 ∷ 0 ∷ []
+
+adjacent : List ℕ
+adjacent = 65 ∷ 8 ∷ 1 ∷ 65 ∷ 8 ∷ 2 ∷ 0 ∷ []
+
+short : List ℕ
+short = 1 ∷ 104 ∷ []
+
+-- addresses: ::, ::7 and 2001:db8:0:5::
+zeros : List ℕ
+unfolding blank
+zeros = blank addressSize
+
+seven : List ℕ
+unfolding blank
+seven = blank 15 ++ (7 ∷ [])
+
+five : List ℕ
+unfolding blank
+five = 32 ∷ 1 ∷ 13 ∷ 184 ∷ 0 ∷ 0 ∷ 0 ∷ 5 ∷ blank 8
+
+none : List ℕ
+unfolding blank
+none = blank slotSize
+
+-- the length octet says one more than the name has, or what follows the name is not zero
+loose : List ℕ
+unfolding ha blank
+loose = 6 ∷ ha ++ blank 250
+
+filled : List ℕ
+unfolding ha blank
+filled = 5 ∷ ha ++ (blank 249 ++ (1 ∷ []))
+
+h64 : List ℕ
+unfolding recordOf slotOf ha pa seven
+h64 = recordOf a6 64 seven (slotOf ha) (slotOf pa)
+
+p0 : List ℕ
+unfolding recordOf slotOf pa five none
+p0 = recordOf a6 0 five (slotOf pa) none
+
+alias : List ℕ → List ℕ → List ℕ
+unfolding recordOf slotOf zeros
+alias owner target = recordOf dname 0 zeros (slotOf owner) (slotOf target)
+
+-- no fault
+faults-none : map faultOf (
+    h64 ∷ p0 ∷ alias ha pa ∷ alias root root ∷ recordOf a6 128 zeros (slotOf ha) (slotOf root) ∷ [])
+    ≡ 0 ∷ 0 ∷ 0 ∷ 0 ∷ 0 ∷ []
+unfolding faultOf h64 p0 alias recordOf slotOf ha pa root zeros
+faults-none = refl
+
+faults-type : map faultOf (recordOf 40 0 five (slotOf pa) none ∷ recordOf 12 0 zeros (slotOf pa) (slotOf ha) ∷ set h64 0 1 ∷ blank 532 ∷ []) ≡ 1 ∷ 1 ∷ 1 ∷ 1 ∷ []
+unfolding faultOf h64 recordOf slotOf ha pa five zeros none blank
+faults-type = refl
+
+faults-prefix : map faultOf (recordOf a6 129 zeros (slotOf ha) (slotOf pa) ∷ recordOf dname 1 zeros (slotOf ha) (slotOf pa) ∷ []) ≡ 2 ∷ 2 ∷ []
+unfolding faultOf recordOf slotOf ha pa zeros
+faults-prefix = refl
+
+faults-zero : map faultOf (set h64 3 1 ∷ set (alias ha pa) 3 128 ∷ []) ≡ 3 ∷ 3 ∷ []
+unfolding faultOf h64 alias ha pa
+faults-zero = refl
+
+-- bits among the first L, and any bit for DNAME; the bit just after the first L is free
+faults-address : map faultOf (
+    recordOf a6 128 seven (slotOf ha) (slotOf pa) ∷ recordOf a6 126 seven (slotOf ha) (slotOf pa) ∷ recordOf a6 125 seven (slotOf ha) (slotOf pa)
+    ∷ recordOf a6 3 five (slotOf ha) (slotOf pa) ∷ recordOf a6 2 five (slotOf ha) (slotOf pa) ∷ recordOf dname 0 seven (slotOf ha) (slotOf pa) ∷ [])
+    ≡ 4 ∷ 4 ∷ 0 ∷ 4 ∷ 0 ∷ 4 ∷ []
+unfolding faultOf recordOf slotOf ha pa seven five
+faults-address = refl
+
+faults-owner : map faultOf (
+    recordOf a6 0 five none none ∷ recordOf a6 0 five (slotOf adjacent) none ∷ recordOf a6 0 five (slotOf short) none
+    ∷ recordOf a6 0 five loose none ∷ recordOf a6 0 five filled none ∷ recordOf dname 0 zeros filled (slotOf pa) ∷ [])
+    ≡ 5 ∷ 5 ∷ 5 ∷ 5 ∷ 5 ∷ 5 ∷ []
+unfolding faultOf recordOf slotOf adjacent short loose filled zeros five none pa
+faults-owner = refl
+
+-- the root is a target, and no target is not the root
+faults-target : map faultOf (
+    recordOf a6 0 five (slotOf ha) (slotOf root) ∷ recordOf a6 0 five (slotOf ha) (slotOf pa) ∷ recordOf a6 64 seven (slotOf ha) none
+    ∷ recordOf dname 0 zeros (slotOf ha) none ∷ recordOf a6 64 seven (slotOf ha) filled ∷ recordOf a6 64 seven (slotOf ha) (slotOf adjacent)
+    ∷ recordOf a6 64 seven (slotOf ha) (slotOf root) ∷ [])
+    ≡ 6 ∷ 6 ∷ 6 ∷ 6 ∷ 6 ∷ 6 ∷ 0 ∷ []
+unfolding faultOf recordOf slotOf ha pa root adjacent filled zeros five seven none
+faults-target = refl
+
+good : List ℕ
+unfolding octetsOf h64 p0 alias
+good = octetsOf (h64 ∷ p0 ∷ p0 ∷ alias pa ha ∷ alias ha ha ∷ [])
+
+-- no records, some, a length that is no multiple, a fault before and after two DNAMEs with one owner, those two alone
+checks : map checkOf (
+    [] ∷ good ∷ drop 1 good ∷ (good ++ (0 ∷ [])) ∷ take 531 good ∷ octetsOf (alias ha pa ∷ h64 ∷ alias ha ha ∷ set p0 3 1 ∷ [])
+    ∷ octetsOf (set p0 3 1 ∷ alias ha pa ∷ alias ha ha ∷ []) ∷ octetsOf (alias ha pa ∷ h64 ∷ alias ha ha ∷ []) ∷ octetsOf (alias pa pa ∷ alias ha pa ∷ alias pa pa ∷ []) ∷ [])
+    ≡ 0 ∷ 0 ∷ 1 ∷ 1 ∷ 1 ∷ 2 ∷ 2 ∷ 3 ∷ 3 ∷ []
+unfolding checkOf octetsOf good h64 p0 alias ha pa
+checks = refl
+
+-- a table and its records
+records : recordsOf good ≡ h64 ∷ p0 ∷ p0 ∷ alias pa ha ∷ alias ha ha ∷ []
+unfolding recordsOf good h64 p0 alias
+records = refl
+
+-- the owner part: of each kind of record, past the last record, and of a table that earns 3
+parts : ownerPart good 0 ∷ ownerPart good 3 ∷ ownerPart good 5 ∷ ownerPart (octetsOf (alias ha pa ∷ alias ha ha ∷ [])) 0 ∷ []
+    ≡ record { offset = 21; length = 5 } ∷ record { offset = 1617; length = 5 } ∷ record { offset = 0; length = 0 } ∷ record { offset = 0; length = 0 } ∷ []
+unfolding ownerPart octetsOf good h64 p0 alias ha pa
+parts = refl

@@ -1,0 +1,233 @@
+-- Laws of a record's faults: the fields in their order, and what a record without a fault is like. Assumes nothing.
+use Prim.Native.Nat.{ℕ, suc}
+use mathlib.Core.Path.{_≡_, refl, ap, _∙_, sym}
+use mathlib.Core.Bool.{Bool, true, false, not, _&&_}
+use mathlib.Core.List.{List}
+use mathlib.Core.Logic.{_⊎_, inl, inr}
+use lib.Dec.{leb, eqb}
+use native.Mathlib.Omega.{arith}
+use borrow.Author.Tests.{eq-eqb, ne-eqb, eqb-true, eqb-false, le-leb, leb-true, not-false}
+use Rattle.octets.specs.Octets.{blank, same}
+use Rattle.octets.specs.Answers.{earns}
+use Rattle.octets.proofs.SameLaws.{same-eq, same-refl}
+use Rattle.names.specs.Standard.{inStandardForm}
+use Rattle.address.specs.Address.{clearTo}
+use Rattle.address.proofs.ClearLaws.{clear-zero}
+use Rattle.plan.specs.Layout.{slotSize, a6, dname, typeOf, prefixOf, zeroOf, addressOf, ownerSlot, targetSlot, nameIn, slotOf, isA6, isDname}
+use Rattle.plan.specs.Check.{slotGood, slotEmpty, typeGood, prefixGood, addressGood, targetless, targetGood, faultOf}
+use Rattle.plan.specs.Good.{Holds, Good}
+
+-- the first field at fault
+module _ (r : List ℕ) where
+  pub fault-type : typeGood r ≡ false → faultOf r ≡ 1
+  unfolding faultOf
+  fault-type a = rw a
+
+  pub fault-prefix : typeGood r ≡ true → prefixGood r ≡ false → faultOf r ≡ 2
+  unfolding faultOf
+  fault-prefix a b = rw (a, b)
+
+  pub fault-zero : typeGood r ≡ true → prefixGood r ≡ true → (zeroOf r ≡ 0 → ⊥) → faultOf r ≡ 3
+  unfolding faultOf
+  fault-zero a b c = rw (a, b, ne-eqb (zeroOf r) 0 c)
+
+  pub fault-address : typeGood r ≡ true → prefixGood r ≡ true → zeroOf r ≡ 0 → addressGood r ≡ false → faultOf r ≡ 4
+  unfolding faultOf
+  fault-address a b c d = rw (a, b, eq-eqb (zeroOf r) 0 c, d)
+
+  pub fault-owner : typeGood r ≡ true → prefixGood r ≡ true → zeroOf r ≡ 0 → addressGood r ≡ true → slotGood (ownerSlot r) ≡ false → faultOf r ≡ 5
+  unfolding faultOf
+  fault-owner a b c d e = rw (a, b, eq-eqb (zeroOf r) 0 c, d, e)
+
+  pub fault-target : typeGood r ≡ true → prefixGood r ≡ true → zeroOf r ≡ 0 → addressGood r ≡ true → slotGood (ownerSlot r) ≡ true → targetGood r ≡ false → faultOf r ≡ 6
+  unfolding faultOf
+  fault-target a b c d e f = rw (a, b, eq-eqb (zeroOf r) 0 c, d, e, f)
+
+  pub fault-none : typeGood r ≡ true → prefixGood r ≡ true → zeroOf r ≡ 0 → addressGood r ≡ true → slotGood (ownerSlot r) ≡ true → targetGood r ≡ true → faultOf r ≡ 0
+  unfolding faultOf
+  fault-none a b c d e f = rw (a, b, eq-eqb (zeroOf r) 0 c, d, e, f)
+
+-- the tests of the fields, by the type
+module _ (r : List ℕ) where
+  pub a6-is : typeOf r ≡ a6 → isA6 r ≡ true
+  unfolding isA6
+  a6-is h = eq-eqb (typeOf r) a6 h
+
+  pub a6-not : (typeOf r ≡ a6 → ⊥) → isA6 r ≡ false
+  unfolding isA6
+  a6-not h = ne-eqb (typeOf r) a6 h
+
+  pub dname-is : typeOf r ≡ dname → isDname r ≡ true
+  unfolding isDname
+  dname-is h = eq-eqb (typeOf r) dname h
+
+  pub dname-not : (typeOf r ≡ dname → ⊥) → isDname r ≡ false
+  unfolding isDname
+  dname-not h = ne-eqb (typeOf r) dname h
+
+  pub is-dname : isDname r ≡ true → typeOf r ≡ dname
+  unfolding isDname
+  is-dname h = eqb-true (typeOf r) dname h
+
+  pub type-a6 : typeOf r ≡ a6 → typeGood r ≡ true
+  unfolding typeGood
+  type-a6 h = rw (a6-is h)
+
+  pub type-other : (typeOf r ≡ a6 → ⊥) → typeGood r ≡ eqb (typeOf r) dname
+  unfolding typeGood isDname
+  type-other h = rw (a6-not h)
+
+  pub prefix-a6 : typeOf r ≡ a6 → prefixGood r ≡ leb (prefixOf r) 128
+  unfolding prefixGood
+  prefix-a6 h = rw (prefixGood, a6-is h)
+
+  pub prefix-other : (typeOf r ≡ a6 → ⊥) → prefixGood r ≡ eqb (prefixOf r) 0
+  unfolding prefixGood
+  prefix-other h = rw (prefixGood, a6-not h)
+
+  pub address-a6 : typeOf r ≡ a6 → addressGood r ≡ clearTo (prefixOf r) (addressOf r)
+  unfolding addressGood
+  address-a6 h = rw (addressGood, a6-is h)
+
+  pub address-other : (typeOf r ≡ a6 → ⊥) → addressGood r ≡ clearTo 128 (addressOf r)
+  unfolding addressGood
+  address-other h = rw (addressGood, a6-not h)
+
+  pub targetless-is : typeOf r ≡ a6 → targetless r ≡ eqb (prefixOf r) 0
+  unfolding targetless
+  targetless-is h = rw (a6-is h)
+
+  pub targetless-other : (typeOf r ≡ a6 → ⊥) → targetless r ≡ false
+  unfolding targetless
+  targetless-other h = rw (a6-not h)
+
+  pub targetless-a6 : typeOf r ≡ a6 → prefixOf r ≡ 0 → targetless r ≡ true
+  targetless-a6 h k = targetless-is h ∙ eq-eqb (prefixOf r) 0 k
+
+  pub targetless-on : (prefixOf r ≡ 0 → ⊥) → targetless r ≡ false
+  unfolding targetless
+  targetless-on h = rw (ne-eqb (prefixOf r) 0 h) (go (isA6 r))
+    where
+      go : (t : Bool) → t && false ≡ false
+      go true = refl
+      go false = refl
+
+  pub target-none : targetless r ≡ true → targetGood r ≡ slotEmpty (targetSlot r)
+  unfolding targetGood
+  target-none h = rw (targetGood, h)
+
+  pub target-some : targetless r ≡ false → targetGood r ≡ slotGood (targetSlot r)
+  unfolding targetGood
+  target-some h = rw (targetGood, h)
+
+-- a good slot holds its name, and a slot that holds its name is good
+pub slot-holds : (s : List ℕ) → slotGood s ≡ true → Holds s
+unfolding slotGood
+slot-holds s h = go (inStandardForm (nameIn s)) refl
+  where
+    go : (t : Bool) → inStandardForm (nameIn s) ≡ t → Holds s
+    go true e = let k : same s (slotOf (nameIn s)) ≡ true = rw e at h in record { name = e; whole = same-eq s (slotOf (nameIn s)) k }
+    go false e = let k : false ≡ true = rw e at h in let z : _≡_ {A = ℕ} 0 1 = cc in let y : ⊥ = omega arith in absurd y
+
+pub holds-slot : (s : List ℕ) → Holds s → slotGood s ≡ true
+unfolding slotGood
+holds-slot s h = rw (h .name) (ap (same s) (sym (h .whole)) ∙ same-refl s)
+
+empty-eq : (s : List ℕ) → slotEmpty s ≡ true → s ≡ blank slotSize
+unfolding slotEmpty
+empty-eq s h = same-eq s (blank slotSize) h
+
+eq-empty : (s : List ℕ) → s ≡ blank slotSize → slotEmpty s ≡ true
+unfolding slotEmpty
+eq-empty s h = rw h (same-refl (blank slotSize))
+
+-- a test that is not earned
+pub passed : (b : Bool) (n later : ℕ) → earns b (suc n) later ≡ 0 → (b ≡ false) × (later ≡ 0)
+passed true n later h = let z : ⊥ = omega arith in absurd z
+passed false n later h = (refl, h)
+
+-- the fields of a record without a fault pass their tests
+record Passes (r : List ℕ) : Type 0 where
+  kind : typeGood r ≡ true
+  prefix : prefixGood r ≡ true
+  nought : zeroOf r ≡ 0
+  address : addressGood r ≡ true
+  owner : slotGood (ownerSlot r) ≡ true
+  target : targetGood r ≡ true
+
+passes : (r : List ℕ) → faultOf r ≡ 0 → Passes r
+unfolding faultOf
+passes r h =
+    let a = passed (not (typeGood r)) 0 _ h in
+    let b = passed (not (prefixGood r)) 1 _ (a .1) in
+    let c = passed (not (eqb (zeroOf r) 0)) 2 _ (b .1) in
+    let d = passed (not (addressGood r)) 3 _ (c .1) in
+    let e = passed (not (slotGood (ownerSlot r))) 4 _ (d .1) in
+    let f = passed (not (targetGood r)) 5 _ (e .1) in
+    record {
+      kind = not-false (typeGood r) (a .0);
+      prefix = not-false (prefixGood r) (b .0);
+      nought = eqb-true (zeroOf r) 0 (not-false (eqb (zeroOf r) 0) (c .0));
+      address = not-false (addressGood r) (d .0);
+      owner = not-false (slotGood (ownerSlot r)) (e .0);
+      target = not-false (targetGood r) (f .0);
+    }
+
+-- a record is without a fault exactly when its fields are as the layout says
+pub fault-good : (r : List ℕ) → faultOf r ≡ 0 → Good r
+fault-good r h = by-type (eqb (typeOf r) a6) refl
+  where
+    w : Passes r
+    w = passes r h
+
+    target : targetless r ≡ false → Holds (targetSlot r)
+    target e = slot-holds (targetSlot r) (sym (target-some r e) ∙ w .target)
+
+    none : targetless r ≡ true → targetSlot r ≡ blank slotSize
+    none e = empty-eq (targetSlot r) (sym (target-none r e) ∙ w .target)
+
+    by-type : (t : Bool) → eqb (typeOf r) a6 ≡ t → Good r
+    by-type true e =
+        let k = eqb-true (typeOf r) a6 e in
+        record {
+          kind = inl k;
+          prefix = leb-true (prefixOf r) 128 (sym (prefix-a6 r k) ∙ w .prefix);
+          nought = w .nought;
+          clear = sym (address-a6 r k) ∙ w .address;
+          owner = slot-holds (ownerSlot r) (w .owner);
+          bare = λ d. let z : ⊥ = omega arith in absurd z;
+          target = target;
+          none = none;
+        }
+    by-type false e =
+        let k : typeOf r ≡ a6 → ⊥ = eqb-false (typeOf r) a6 e in
+        let d = eqb-true (typeOf r) dname (sym (type-other r k) ∙ w .kind) in
+        let l = eqb-true (prefixOf r) 0 (sym (prefix-other r k) ∙ w .prefix) in
+        let c = sym (address-other r k) ∙ w .address in
+        record {
+          kind = inr d;
+          prefix = omega arith;
+          nought = w .nought;
+          clear = rw l (clear-zero (addressOf r));
+          owner = slot-holds (ownerSlot r) (w .owner);
+          bare = λ _. (l, c);
+          target = target;
+          none = none;
+        }
+
+pub good-fault : (r : List ℕ) → Good r → faultOf r ≡ 0
+good-fault r g = by-type (g .kind)
+  where
+    target : (t : Bool) → targetless r ≡ t → targetGood r ≡ true
+    target true e = target-none r e ∙ eq-empty (targetSlot r) (g .none e)
+    target false e = target-some r e ∙ holds-slot (targetSlot r) (g .target e)
+
+    by-type : (typeOf r ≡ a6) ⊎ (typeOf r ≡ dname) → faultOf r ≡ 0
+    by-type (inl k) =
+        fault-none r (type-a6 r k) (prefix-a6 r k ∙ le-leb (prefixOf r) 128 (g .prefix)) (g .nought) (address-a6 r k ∙ g .clear)
+        (holds-slot (ownerSlot r) (g .owner)) (target (targetless r) refl)
+    by-type (inr d) =
+        let k : typeOf r ≡ a6 → ⊥ = λ e. omega arith in
+        let b = g .bare d in
+        fault-none r (type-other r k ∙ eq-eqb (typeOf r) dname d) (prefix-other r k ∙ eq-eqb (prefixOf r) 0 (b .0)) (g .nought) (address-other r k ∙ b .1)
+        (holds-slot (ownerSlot r) (g .owner)) (target (targetless r) refl)

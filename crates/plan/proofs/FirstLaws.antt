@@ -1,0 +1,68 @@
+-- Laws of the least number that passes a test. Assumes nothing.
+use Prim.Native.Nat.{ℕ, zero, suc, _+_, _-_, _≤_, _<_}
+use mathlib.Core.Path.{_≡_, refl, ap, _∙_}
+use mathlib.Core.Bool.{Bool, true, false}
+use lib.Dec.{eqb}
+use native.Mathlib.Omega.{arith}
+use native.Mathlib.Numerals.{add-one}
+use borrow.Author.Tests.{le-ltb, ltb-false, eqb-true, eqb-false}
+use Rattle.plan.specs.First.{firstFrom, first, some}
+
+-- the turns of a loop that looks for it, with the number i reached
+module _ (f : ℕ → Bool) (i n : ℕ) where
+  pub first-on : i < n → f i ≡ false → firstFrom f i (n - i) ≡ firstFrom f (i + 1) (n - (i + 1))
+  unfolding firstFrom
+  first-on h e = let k : n - i ≡ suc (n - (i + 1)) = omega arith in rw (k, firstFrom, e, add-one i)
+
+  pub first-here : i < n → f i ≡ true → firstFrom f i (n - i) ≡ i
+  unfolding firstFrom
+  first-here h e = let k : n - i ≡ suc (n - (i + 1)) = omega arith in rw (k, firstFrom, e)
+
+  pub first-end : n ≤ i → firstFrom f i (n - i) ≡ i
+  unfolding firstFrom
+  first-end h = let k : n - i ≡ 0 = omega arith in rw k
+
+first-most : (f : ℕ → Bool) (i n : ℕ) → firstFrom f i n ≤ i + n
+unfolding firstFrom
+first-most f i zero = omega arith
+first-most f i (suc n) = go (f i) refl (first-most f (suc i) n)
+  where
+    go : (t : Bool) → f i ≡ t → firstFrom f (suc i) n ≤ suc i + n → firstFrom f i (suc n) ≤ i + suc n
+    go true e h = rw (firstFrom, e) (omega arith)
+    go false e h = rw (firstFrom, e) (omega arith)
+
+from-none : (f : ℕ → Bool) (i n : ℕ) → firstFrom f i n ≡ i + n → (k : ℕ) → i ≤ k → k < i + n → f k ≡ false
+unfolding firstFrom
+from-none f i zero h k p q = let z : ⊥ = omega arith in absurd z
+from-none f i (suc n) h k p q = go (f i) refl (λ e. from-none f (suc i) n e k)
+  where
+    go : (t : Bool) → f i ≡ t → (firstFrom f (suc i) n ≡ suc i + n → suc i ≤ k → k < suc i + n → f k ≡ false) → f k ≡ false
+    go true e ih = let z : i ≡ i + suc n = rw (firstFrom, e) at h in let y : ⊥ = omega arith in absurd y
+    go false e ih = at-k (eqb k i) refl
+      where
+        at-k : (t : Bool) → eqb k i ≡ t → f k ≡ false
+        at-k true d = ap f (eqb-true k i d) ∙ e
+        at-k false d =
+            let w : k ≡ i → ⊥ = eqb-false k i d in
+            let m : firstFrom f (suc i) n ≡ i + suc n = rw (firstFrom, e) at h in
+            ih (omega arith) (omega (arith, w)) (omega arith)
+
+none-from : (f : ℕ → Bool) (i n : ℕ) → ((k : ℕ) → i ≤ k → k < i + n → f k ≡ false) → firstFrom f i n ≡ i + n
+unfolding firstFrom
+none-from f i zero h = omega arith
+none-from f i (suc n) h =
+    rw (firstFrom, h i (omega arith) (omega arith)) (none-from f (suc i) n (λ k p q. h k (omega arith) (omega arith)) ∙ omega arith)
+
+-- none of the numbers below n passes
+module _ (f : ℕ → Bool) (n : ℕ) where
+  pub first-none : first f n ≡ n → (i : ℕ) → i < n → f i ≡ false
+  first-none h i p = from-none f 0 n (omega arith) i (omega arith) (omega arith)
+
+  pub none-first : ((i : ℕ) → i < n → f i ≡ false) → first f n ≡ n
+  none-first h = none-from f 0 n (λ k p q. h k (omega arith)) ∙ omega arith
+
+  pub some-none : some f n ≡ false → first f n ≡ n
+  some-none h = let p = first-most f 0 n in let q = ltb-false (first f n) n h in omega arith
+
+  pub none-some : first f n ≡ n → some f n ≡ false
+  none-some h = le-ltb (first f n) n (omega arith)

@@ -1,0 +1,101 @@
+-- Laws of the layout: a table and its records. Assumes nothing.
+use Prim.Native.Nat.{ℕ, zero, suc, _+_, _*_, _≤_, _<_}
+use mathlib.Core.Path.{_≡_, refl, ap, _∙_}
+use mathlib.Core.List.{List, [], _∷_, _++_}
+use lib.ListN.{length, getD, take, drop, length-append, length-drop, take-append-drop}
+use lib.Seq.{length-take-le, drop-drop, take-at, drop-at}
+use native.Mathlib.Omega.{arith}
+use Rattle.octets.specs.Octets.{Small}
+use Rattle.octets.proofs.OctetLaws.{small-take, small-drop}
+use Rattle.plan.specs.Layout.{recordSize, countOf, recordAt, firstRecords, recordsOf, octetsOf}
+
+-- the record at an index is within the table, and whole
+module _ (t : List ℕ) (i : ℕ) (h : i < countOf t) where
+  pub record-fits : i * recordSize + recordSize ≤ length t
+  unfolding countOf
+  record-fits = omega arith
+
+  pub record-length : length (recordAt t i) ≡ recordSize
+  unfolding recordAt
+  record-length = length-take-le recordSize (drop (i * recordSize) t) (rw (length-drop (i * recordSize) t) (omega (arith, record-fits)))
+
+pub record-small : (t : List ℕ) (i : ℕ) → Small t → Small (recordAt t i)
+unfolding recordAt
+record-small t i s = small-take recordSize (drop (i * recordSize) t) (small-drop (i * recordSize) t s)
+
+-- a table as its records
+first-at : (n : ℕ) (t : List ℕ) (i : ℕ) → i < n → getD (firstRecords n t) i [] ≡ recordAt t i
+unfolding firstRecords recordAt
+first-at zero t i h = let z : ⊥ = omega arith in absurd z
+first-at (suc n) t zero h = refl
+first-at (suc n) t (suc i) h =
+    let e : recordSize + i * recordSize ≡ suc i * recordSize = omega arith in
+    first-at n (drop recordSize t) i (omega arith) ∙ rw (drop-drop (i * recordSize) recordSize t, e)
+
+first-length : (n : ℕ) (t : List ℕ) → length (firstRecords n t) ≡ n
+unfolding firstRecords
+first-length zero t = refl
+first-length (suc n) t = ap suc (first-length n (drop recordSize t))
+
+pub records-length : (t : List ℕ) → length (recordsOf t) ≡ countOf t
+unfolding recordsOf
+records-length t = first-length (countOf t) t
+
+pub records-at : (t : List ℕ) (i : ℕ) → i < countOf t → getD (recordsOf t) i [] ≡ recordAt t i
+unfolding recordsOf
+records-at t i h = first-at (countOf t) t i h
+
+-- a table that is made of records
+abbrev pub Whole : List (List ℕ) → Type 0
+Whole rs = (i : ℕ) → i < length rs → length (getD rs i []) ≡ recordSize
+
+whole-tail : (r : List ℕ) (rs : List (List ℕ)) → Whole (r ∷ rs) → Whole rs
+whole-tail r rs w i h = w (suc i) (omega arith)
+
+pub octets-length : (rs : List (List ℕ)) → Whole rs → length (octetsOf rs) ≡ length rs * recordSize
+unfolding octetsOf
+octets-length [] w = refl
+octets-length (r ∷ rs) w =
+    let l = w 0 (omega arith) in
+    let m = octets-length rs (whole-tail r rs w) in
+    length-append r (octetsOf rs) ∙ omega arith
+
+pub count-octets : (rs : List (List ℕ)) → Whole rs → countOf (octetsOf rs) ≡ length rs
+unfolding countOf
+count-octets rs w = omega (arith, octets-length rs w)
+
+pub record-octets : (rs : List (List ℕ)) → Whole rs → (i : ℕ) → i < length rs → recordAt (octetsOf rs) i ≡ getD rs i []
+unfolding recordAt octetsOf
+record-octets [] w i h = let z : ⊥ = omega arith in absurd z
+record-octets (r ∷ rs) w zero h = take-at r (octetsOf rs) recordSize (w 0 (omega arith))
+record-octets (r ∷ rs) w (suc i) h =
+    let e : suc i * recordSize ≡ recordSize + i * recordSize = omega arith in
+    rw (e, ← drop-drop (i * recordSize) recordSize (r ++ octetsOf rs), drop-at r (octetsOf rs) recordSize (w 0 (omega arith)))
+    (record-octets rs (whole-tail r rs w) i (omega arith))
+
+first-octets : (rs : List (List ℕ)) → Whole rs → firstRecords (length rs) (octetsOf rs) ≡ rs
+unfolding firstRecords octetsOf
+first-octets [] w = refl
+first-octets (r ∷ rs) w =
+    let l = w 0 (omega arith) in
+    rw (take-at r (octetsOf rs) recordSize l, drop-at r (octetsOf rs) recordSize l) (ap (λ (xs : List (List ℕ)). r ∷ xs) (first-octets rs (whole-tail r rs w)))
+
+pub records-octets : (rs : List (List ℕ)) → Whole rs → recordsOf (octetsOf rs) ≡ rs
+unfolding recordsOf
+records-octets rs w = rw (count-octets rs w) (first-octets rs w)
+
+octets-first : (n : ℕ) (t : List ℕ) → length t ≡ n * recordSize → octetsOf (firstRecords n t) ≡ t
+unfolding firstRecords octetsOf
+octets-first zero [] h = refl
+octets-first zero (x ∷ t) h = let z : ⊥ = omega arith in absurd z
+octets-first (suc n) t h =
+    ap (λ (xs : List ℕ). take recordSize t ++ xs) (octets-first n (drop recordSize t) (length-drop recordSize t ∙ omega arith)) ∙ take-append-drop recordSize t
+
+pub octets-records : (t : List ℕ) → length t ≡ countOf t * recordSize → octetsOf (recordsOf t) ≡ t
+unfolding recordsOf
+octets-records t h = octets-first (countOf t) t h
+
+pub records-whole : (t : List ℕ) → Whole (recordsOf t)
+records-whole t i h =
+    let k : i < countOf t = omega (arith, records-length t) in
+    ap length (records-at t i k) ∙ record-length t i k

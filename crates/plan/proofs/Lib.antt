@@ -1,0 +1,10 @@
+pub mod LayoutLaws
+pub mod RecordLaws
+pub mod WriteLaws
+pub mod SlotLaws
+pub mod FirstLaws
+pub mod FaultLaws
+pub mod OrderLaws
+pub mod MarkLaws
+pub mod PartLaws
+pub mod Examples

@@ -1,0 +1,89 @@
+-- Laws of the part of a table that an owner takes. Assumes nothing.
+use Prim.Native.Nat.{ℕ, zero, suc, _+_, _*_, _≤_, _<_}
+use mathlib.Core.Path.{_≡_, refl, ap, _∙_}
+use mathlib.Core.Bool.{Bool, true, false}
+use mathlib.Core.List.{List, [], _∷_}
+use lib.Dec.{ltb, eqb}
+use lib.ListN.{length, getD, take, drop}
+use lib.Seq.{take-take, drop-drop}
+use native.Mathlib.Omega.{arith}
+use borrow.Author.Tests.{eq-eqb, ne-eqb, eqb-true, eqb-false, lt-ltb, le-ltb, ltb-true, ltb-false}
+use Rattle.octets.specs.Octets.{Small}
+use Rattle.plan.specs.declared.Part.{Part}
+use Rattle.plan.specs.Layout.{recordSize, maxRecords, slotSize, ownerPlace, nameIn, ownerSlot, countOf, recordAt, ownerAt}
+use Rattle.plan.specs.Check.{checkOf, InOrder}
+use Rattle.plan.proofs.OrderLaws.{order-length, order-count}
+use Rattle.plan.specs.Part.{ownerWithin, emptyPart, ownerPart}
+use Rattle.plan.proofs.LayoutLaws.{record-fits, record-small}
+use Rattle.plan.proofs.RecordLaws.{owner-small, owner-short}
+
+-- a part of a part
+take-drop-take : (n k m : ℕ) (l : List ℕ) → k + n ≤ m → take n (drop k (take m l)) ≡ take n (drop k l)
+take-drop-take n zero m l h = take-take n m l (omega arith)
+take-drop-take n (suc k) zero l h = let z : ⊥ = omega arith in absurd z
+take-drop-take n (suc k) (suc m) [] h = refl
+take-drop-take n (suc k) (suc m) (x ∷ l) h = take-drop-take n k m l (omega arith)
+
+take-length-take : (n : ℕ) (l : List ℕ) → take (length (take n l)) l ≡ take n l
+take-length-take zero l = refl
+take-length-take (suc n) [] = refl
+take-length-take (suc n) (x ∷ l) = ap (λ (xs : List ℕ). x ∷ xs) (take-length-take n l)
+
+-- the owner's octets, as the table has them
+owner-octets : (t : List ℕ) (i : ℕ) → getD (ownerSlot (recordAt t i)) 0 0 < 256 → ownerAt t i ≡ take (getD (ownerSlot (recordAt t i)) 0 0) (drop (i * recordSize + (ownerPlace + 1)) t)
+unfolding nameIn ownerSlot recordAt
+owner-octets t i h =
+    let n = getD (ownerSlot (recordAt t i)) 0 0 in
+    let d = drop (i * recordSize) t in
+    take-drop-take n 1 slotSize (drop ownerPlace (take recordSize d)) (omega arith)
+    ∙ ap (take n) (drop-drop 1 ownerPlace (take recordSize d))
+    ∙ take-drop-take n (ownerPlace + 1) recordSize d (omega arith)
+    ∙ ap (take n) (drop-drop (ownerPlace + 1) (i * recordSize) t)
+
+pub owner-within : (t : List ℕ) (i : ℕ) → Small t → take (ownerWithin t i .length) (drop (ownerWithin t i .offset) t) ≡ ownerAt t i
+unfolding ownerWithin
+owner-within t i s =
+    let h : getD (ownerSlot (recordAt t i)) 0 0 < 256 = owner-small (recordAt t i) (record-small t i s) 0 in
+    let e = owner-octets t i h in
+    rw e (take-length-take (getD (ownerSlot (recordAt t i)) 0 0) (drop (i * recordSize + (ownerPlace + 1)) t))
+
+-- what is shown
+module _ (t : List ℕ) (i : ℕ) where
+  pub part-in : checkOf t ≡ 0 → i < countOf t → ownerPart t i ≡ ownerWithin t i
+  unfolding ownerPart
+  part-in o h = rw (ownerPart, eq-eqb (checkOf t) 0 o, lt-ltb i (countOf t) h)
+
+  pub part-refused : (checkOf t ≡ 0 → ⊥) → ownerPart t i ≡ emptyPart
+  unfolding ownerPart
+  part-refused o = rw (ownerPart, ne-eqb (checkOf t) 0 o)
+
+  pub part-past : checkOf t ≡ 0 → countOf t ≤ i → ownerPart t i ≡ emptyPart
+  unfolding ownerPart
+  part-past o h = rw (ownerPart, eq-eqb (checkOf t) 0 o, le-ltb i (countOf t) h)
+
+  pub within-fits : i < countOf t → ownerWithin t i .offset + ownerWithin t i .length ≤ length t
+  unfolding ownerWithin
+  within-fits h = omega (arith, record-fits t i h, owner-short (recordAt t i))
+
+  pub part-fits : ownerPart t i .offset + ownerPart t i .length ≤ length t
+  part-fits = go (eqb (checkOf t) 0) (ltb i (countOf t)) refl refl
+    where
+      fits : {p : Part} → ownerPart t i ≡ p → p .offset + p .length ≤ length t → ownerPart t i .offset + ownerPart t i .length ≤ length t
+      fits e h = rw e h
+
+      go : (v w : Bool) → eqb (checkOf t) 0 ≡ v → ltb i (countOf t) ≡ w → ownerPart t i .offset + ownerPart t i .length ≤ length t
+      go true true e f = fits (part-in (eqb-true (checkOf t) 0 e) (ltb-true i (countOf t) f)) (within-fits (ltb-true i (countOf t) f))
+      go true false e f = fits (part-past (eqb-true (checkOf t) 0 e) (ltb-false i (countOf t) f)) (omega arith)
+      go false w e f = fits (part-refused (eqb-false (checkOf t) 0 e)) (omega arith)
+
+-- and it ends within the longest table in order
+pub part-small : (t : List ℕ) (i : ℕ) → ownerPart t i .offset + ownerPart t i .length ≤ maxRecords * recordSize
+part-small t i = go (eqb (checkOf t) 0) refl
+  where
+    go : (v : Bool) → eqb (checkOf t) 0 ≡ v → ownerPart t i .offset + ownerPart t i .length ≤ maxRecords * recordSize
+    go true e = let o : InOrder t = eqb-true (checkOf t) 0 e in omega (arith, part-fits t i, order-length t o, order-count t o)
+    go false e = rw (part-refused t i (eqb-false (checkOf t) 0 e)) (omega arith)
+
+-- the part that is shown of a table in order is the record's owner
+pub part-owner : (t : List ℕ) (i : ℕ) → Small t → InOrder t → i < countOf t → take (ownerPart t i .length) (drop (ownerPart t i .offset) t) ≡ ownerAt t i
+part-owner t i s o h = rw (part-in t i o h) (owner-within t i s)

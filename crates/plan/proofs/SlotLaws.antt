@@ -1,0 +1,92 @@
+-- Laws of slots. Assumes nothing.
+use Prim.Native.Nat.{ℕ, _+_, _-_, _<_}
+use mathlib.Core.Path.{_≡_, refl, ap, _∙_, sym}
+use mathlib.Core.Bool.{Bool, true, false, _&&_}
+use mathlib.Core.List.{List, [], _∷_, _++_}
+use lib.ListN.{length, getD, take, drop, length-drop, take-append-drop}
+use lib.Seq.{length-take-le, drop-drop, drop-cons, drop-at}
+use native.Mathlib.Omega.{arith}
+use Rattle.octets.specs.Octets.{blank, same, Small}
+use Rattle.octets.specs.Zeros.{isBlank}
+use Rattle.octets.proofs.OctetLaws.{length-blank, small-take, small-drop}
+use Rattle.octets.proofs.SameLaws.{same-eq, same-refl}
+use Rattle.octets.proofs.ZeroLaws.{blank-eq}
+use Rattle.names.specs.Standard.{inStandardForm}
+use Rattle.plan.specs.Layout.{nameRoom, slotSize, nameIn, slotOf}
+use Rattle.plan.specs.Check.{slotGood, slotEmpty}
+
+-- two tests that imply each other
+pub bool-iff : (a b : Bool) → (a ≡ true → b ≡ true) → (b ≡ true → a ≡ true) → a ≡ b
+bool-iff true b f g = sym (f refl)
+bool-iff false true f g = g refl
+bool-iff false false f g = refl
+
+-- the octets of a slot after the name
+abbrev fillIn : List ℕ → List ℕ
+fillIn s = drop (1 + getD s 0 0) s
+
+module _ (s : List ℕ) (l : length s ≡ slotSize) (o : getD s 0 0 < 256) where
+  pub name-length : length (nameIn s) ≡ getD s 0 0
+  unfolding nameIn
+  name-length = length-take-le (getD s 0 0) (drop 1 s) (rw (length-drop 1 s) (omega arith))
+
+  fill-length : length (fillIn s) ≡ nameRoom - getD s 0 0
+  fill-length = length-drop (1 + getD s 0 0) s ∙ omega arith
+
+  -- a slot is its length, its name and its fill
+  slot-parts : s ≡ getD s 0 0 ∷ (nameIn s ++ fillIn s)
+  unfolding nameIn
+  slot-parts =
+      drop-cons s 0 0 (omega arith)
+      ∙ ap (λ (xs : List ℕ). getD s 0 0 ∷ xs)
+      (sym (take-append-drop (getD s 0 0) (drop 1 s)) ∙ ap (λ (xs : List ℕ). take (getD s 0 0) (drop 1 s) ++ xs) (drop-drop (getD s 0 0) 1 s))
+
+  fill-slot : isBlank (fillIn s) ≡ true → s ≡ slotOf (nameIn s)
+  unfolding slotOf
+  fill-slot b =
+      let e : fillIn s ≡ blank (nameRoom - getD s 0 0) = blank-eq (fillIn s) b ∙ ap blank fill-length in
+      slot-parts ∙ rw (e, name-length)
+
+  slot-fill : s ≡ slotOf (nameIn s) → isBlank (fillIn s) ≡ true
+  unfolding slotOf isBlank
+  slot-fill e =
+      let p : fillIn s ≡ drop (1 + getD s 0 0) (slotOf (nameIn s)) = ap (drop (1 + getD s 0 0)) e in
+      let q : drop (1 + getD s 0 0) (slotOf (nameIn s)) ≡ blank (nameRoom - length (nameIn s)) =
+      drop-at (length (nameIn s) ∷ nameIn s) (blank (nameRoom - length (nameIn s))) (1 + getD s 0 0) (omega (arith, name-length)) in
+      rw (p ∙ q, length-blank (nameRoom - length (nameIn s))) (same-refl (blank (nameRoom - length (nameIn s))))
+
+  filled-same : same s (slotOf (nameIn s)) ≡ isBlank (fillIn s)
+  filled-same = bool-iff (same s (slotOf (nameIn s))) (isBlank (fillIn s)) (λ h. slot-fill (same-eq s (slotOf (nameIn s)) h)) (λ h. go (fill-slot h))
+    where
+      go : s ≡ slotOf (nameIn s) → same s (slotOf (nameIn s)) ≡ true
+      go e = ap (same s) (sym e) ∙ same-refl s
+
+  -- a slot holds a good name when its fill is zero and its name is in standard form
+  pub slot-loose : isBlank (fillIn s) ≡ false → slotGood s ≡ false
+  unfolding slotGood
+  slot-loose b = rw (filled-same, b) (go (inStandardForm (nameIn s)))
+    where
+      go : (t : Bool) → t && false ≡ false
+      go true = refl
+      go false = refl
+
+  pub slot-filled : isBlank (fillIn s) ≡ true → slotGood s ≡ inStandardForm (nameIn s)
+  unfolding slotGood
+  slot-filled b = rw (filled-same, b) (go (inStandardForm (nameIn s)))
+    where
+      go : (t : Bool) → t && true ≡ t
+      go true = refl
+      go false = refl
+
+pub name-small : (s : List ℕ) → Small s → Small (nameIn s)
+unfolding nameIn
+name-small s m = small-take (getD s 0 0) (drop 1 s) (small-drop 1 s m)
+
+pub slot-empty : (s : List ℕ) → length s ≡ slotSize → isBlank s ≡ slotEmpty s
+unfolding isBlank slotEmpty
+slot-empty s l = rw l
+
+-- a slot without a name has none
+pub none-name : nameIn (blank slotSize) ≡ []
+unfolding nameIn blank
+none-name = refl

@@ -1,0 +1,24 @@
+-- `plan::inside::octet` meets its contract. Assumes nothing.
+use mathlib.Core.Path.{sym}
+use lib.ListN.{List·getD-eq-default}
+use native.Mathlib.Omega.{arith}
+use borrow.Author.Needs.{needs}
+use Rattle.plan.proofs.inside.octet.Statement.{statement}
+use Rattle.plan.proofs.inside.octet.Tie as tie
+
+shared-slice-read-wide : tie.Need-shared-slice-read-wide
+shared-slice-read-wide c = search needs
+
+wide-requires : tie.Need-wide-requires
+wide-requires c κs = search needs
+
+returns : tie.Need-returns
+returns c = search needs
+
+returns-2 : tie.Need-returns-2
+returns-2 c =
+    let s = c .before .before .args .name .now in
+    (sym (List·getD-eq-default s 0 {n = c .before .before .args .i} (c .if1 .left)), omega arith)
+
+pub octet-spec : {M : Type 1} → statement M
+octet-spec = tie.close (tie.spec shared-slice-read-wide wide-requires returns returns-2)

@@ -1,0 +1,21 @@
+-- `plan::inside::target_slot` meets its contract. Assumes nothing.
+use borrow.Author.Needs.{needs}
+use Rattle.plan.specs.Layout.{targetSlot}
+use Rattle.plan.proofs.inside.target_slot.Statement.{statement}
+use Rattle.plan.proofs.inside.target_slot.Tie as tie
+
+sub-result : tie.Need-sub-result
+sub-result c = search needs
+
+part-result-start : tie.Need-part-result-start
+part-result-start c = search needs
+
+part-result-end : tie.Need-part-result-end
+part-result-end c = search needs
+
+returns : tie.Need-returns
+unfolding targetSlot
+returns c = search needs
+
+pub target-slot-spec : {M : Type 1} → statement M
+target-slot-spec = tie.close (tie.spec sub-result part-result-start part-result-end returns)

@@ -1,0 +1,123 @@
+-- The plan table (01, the section of that name): its layout, in this place alone. Assumes nothing.
+use Prim.Native.Nat.{ℕ, zero, suc, _+_, _-_, _*_, _/_, _%_}
+use mathlib.Core.Bool.{Bool}
+use mathlib.Core.List.{List, [], _∷_, _++_}
+use lib.Dec.{eqb}
+use lib.ListN.{length, getD, take, drop}
+use Rattle.octets.specs.Octets.{blank}
+
+-- the octets of a record, the most records of a table, the octets of an address, and those of a slot: a length octet and the most that a name has
+abbrev pub recordSize : ℕ
+recordSize = 532
+
+abbrev pub maxRecords : ℕ
+maxRecords = 1024
+
+abbrev pub addressSize : ℕ
+addressSize = 16
+
+abbrev pub nameRoom : ℕ
+nameRoom = 255
+
+abbrev pub slotSize : ℕ
+slotSize = 256
+
+-- where the longer fields of a record stand
+abbrev pub addressPlace : ℕ
+addressPlace = 4
+
+abbrev pub ownerPlace : ℕ
+ownerPlace = 20
+
+abbrev pub targetPlace : ℕ
+targetPlace = 276
+
+-- the types
+abbrev pub a6 : ℕ
+a6 = 38
+
+abbrev pub dname : ℕ
+dname = 39
+
+-- the fields of a record
+unfoldable pub typeOf : List ℕ → ℕ
+typeOf r = getD r 0 0 * 256 + getD r 1 0
+
+unfoldable pub prefixOf : List ℕ → ℕ
+prefixOf r = getD r 2 0
+
+unfoldable pub zeroOf : List ℕ → ℕ
+zeroOf r = getD r 3 0
+
+unfoldable pub addressOf : List ℕ → List ℕ
+addressOf r = take addressSize (drop addressPlace r)
+
+unfoldable pub ownerSlot : List ℕ → List ℕ
+ownerSlot r = take slotSize (drop ownerPlace r)
+
+unfoldable pub targetSlot : List ℕ → List ℕ
+targetSlot r = take slotSize (drop targetPlace r)
+
+-- the octets of a slot that its length octet says are the name
+unfoldable pub nameIn : List ℕ → List ℕ
+nameIn s = take (getD s 0 0) (drop 1 s)
+
+-- the slot that holds a name: its length, the name, zeros
+unfoldable pub slotOf : List ℕ → List ℕ
+unfolding blank
+slotOf name = length name ∷ (name ++ blank (nameRoom - length name))
+
+unfoldable pub isA6 : List ℕ → Bool
+unfolding typeOf
+isA6 r = eqb (typeOf r) a6
+
+unfoldable pub isDname : List ℕ → Bool
+unfolding typeOf
+isDname r = eqb (typeOf r) dname
+
+abbrev pub ownerOf : List ℕ → List ℕ
+ownerOf r = nameIn (ownerSlot r)
+
+abbrev pub targetOf : List ℕ → List ℕ
+targetOf r = nameIn (targetSlot r)
+
+-- a record made of its fields
+unfoldable pub recordOf : ℕ → ℕ → List ℕ → List ℕ → List ℕ → List ℕ
+recordOf type prefix address owner target = type / 256 ∷ type % 256 ∷ prefix ∷ 0 ∷ (address ++ owner ++ target)
+
+-- how many records a table has, and the one at an index
+unfoldable pub countOf : List ℕ → ℕ
+countOf t = length t / recordSize
+
+unfoldable pub recordAt : List ℕ → ℕ → List ℕ
+recordAt t i = take recordSize (drop (i * recordSize) t)
+
+-- the fields of the record at an index
+abbrev pub typeAt : List ℕ → ℕ → ℕ
+typeAt t i = typeOf (recordAt t i)
+
+abbrev pub prefixAt : List ℕ → ℕ → ℕ
+prefixAt t i = prefixOf (recordAt t i)
+
+abbrev pub addressAt : List ℕ → ℕ → List ℕ
+addressAt t i = addressOf (recordAt t i)
+
+abbrev pub ownerAt : List ℕ → ℕ → List ℕ
+ownerAt t i = ownerOf (recordAt t i)
+
+abbrev pub targetAt : List ℕ → ℕ → List ℕ
+targetAt t i = targetOf (recordAt t i)
+
+-- the first n records of a table
+unfoldable pub firstRecords : ℕ → List ℕ → List (List ℕ)
+firstRecords zero t = []
+firstRecords (suc n) t = take recordSize t ∷ firstRecords n (drop recordSize t)
+
+-- a table as the list of its records, and the table that a list of records makes
+unfoldable pub recordsOf : List ℕ → List (List ℕ)
+unfolding countOf firstRecords
+recordsOf t = firstRecords (countOf t) t
+
+unfoldable pub octetsOf : List (List ℕ) → List ℕ
+octetsOf [] = []
+octetsOf (r ∷ rs) = r ++ octetsOf rs

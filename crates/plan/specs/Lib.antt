@@ -1,0 +1,7 @@
+pub mod Layout
+pub mod First
+pub mod Check
+pub mod Good
+pub mod Marks
+pub mod Part
+pub mod Graph

@@ -1,0 +1,112 @@
+//! Collapse (01, Collapse of a name X), record by record and bit by bit.
+
+use super::names::{self, Unit};
+use super::{plan, Answer};
+
+/// A record: its octets and what they say.
+struct Record<'a> {
+    octets: &'a [u8],
+    a6: bool,
+    length: usize,
+    owner: Vec<Unit>,
+    /// None at prefix length 0 of an A6 record.
+    target: Option<Vec<Unit>>,
+}
+
+impl Record<'_> {
+    /// An A6 record of the name with a prefix length over 0.
+    fn is_unfinished_of(&self, name: &[Unit]) -> bool {
+        self.a6 && self.length > 0 && self.owner == name
+    }
+
+    fn is_owned_by(&self, target: &Option<Vec<Unit>>) -> bool {
+        self.a6 && target.as_ref() == Some(&self.owner)
+    }
+
+    /// This record with another one of its target folded into it.
+    fn folded(&self, other: &Record) -> Vec<u8> {
+        let mut octets = vec![0, 38, other.octets[2], 0];
+        for at in 0..16 {
+            let bit = |bit: usize| {
+                let from = if at * 8 + bit < self.length { other } else { self };
+                from.octets[4 + at] & 128 >> bit
+            };
+            octets.push((0..8).map(bit).sum());
+        }
+        octets.extend(&self.octets[20..276]);
+        octets.extend(&other.octets[276..]);
+        octets
+    }
+}
+
+/// A table in order, read.
+pub struct Plan<'a> {
+    records: Vec<Record<'a>>,
+}
+
+impl Plan<'_> {
+    pub fn new(table: &[u8]) -> Plan<'_> {
+        let read = |octets| Record {
+            octets,
+            a6: octets[1] == 38,
+            length: octets[2] as usize,
+            owner: plan::name_in(&octets[20..276]).expect("an owner"),
+            target: plan::name_in(&octets[276..]),
+        };
+        Plan { records: table.chunks(532).map(read).collect() }
+    }
+
+    /// The table that the rule makes.
+    pub fn fold(&self, name: &[Unit]) -> Vec<u8> {
+        let mut folded = Vec::new();
+        for record in &self.records {
+            if record.is_unfinished_of(name) {
+                for other in &self.records {
+                    if other.is_owned_by(&record.target) && other.length <= record.length {
+                        folded.extend(record.folded(other));
+                    }
+                }
+            } else {
+                folded.extend(record.octets);
+            }
+        }
+        folded
+    }
+
+    /// The name owns an A6 record.
+    pub fn owns(&self, name: &[Unit]) -> bool {
+        self.records.iter().any(|record| record.a6 && record.owner == name)
+    }
+
+    /// Some A6 record with the name as its target is shorter than an unfinished one of the name.
+    pub fn is_reviving(&self, name: &[Unit]) -> bool {
+        let mut referrers = self.records.iter().filter(|record| record.a6 && record.target.as_deref() == Some(name));
+        referrers.any(|referrer| {
+            self.records.iter().any(|record| record.is_unfinished_of(name) && referrer.length < record.length)
+        })
+    }
+}
+
+/// The answer of `a6plan_collapse` for an output and figures of these lengths.
+pub fn collapse(table: &[u8], name: &[u8], out: usize, figures: usize) -> Answer {
+    let refusal = |number| (number, vec![0; out], vec![0; figures]);
+    let number = plan::check(table);
+    if number != 0 {
+        return refusal(number);
+    }
+    let Some(name) = names::whole(name) else { return refusal(4) };
+    if !out.is_multiple_of(532) || figures != 2 {
+        return refusal(5);
+    }
+    let plan = Plan::new(table);
+    if plan.is_reviving(&name) {
+        return refusal(9);
+    }
+    let mut folded = plan.fold(&name);
+    let records = folded.len() / 532;
+    if records > out / 532 || records > 1024 {
+        return refusal(7);
+    }
+    folded.resize(out, 0);
+    (0, folded, vec![records as u32, 0])
+}

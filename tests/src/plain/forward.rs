@@ -1,0 +1,152 @@
+//! Chains and addresses (01, Chains), twice over: chains as lists of records with no repeats, whose number is the work,
+//! and the addresses of all finite chains, repeats allowed, as a fixed point.
+
+use super::names::{self, Unit};
+use super::{plan, Answer};
+use std::collections::{BTreeSet, HashSet};
+
+/// An A6 record. Names are numbers in the list of those in the table.
+struct Record {
+    owner: usize,
+    length: usize,
+    address: u128,
+    /// None at prefix length 0.
+    target: Option<usize>,
+}
+
+/// The A6 records of a table in order, and the distinct names in them as first met.
+pub struct Graph {
+    records: Vec<Record>,
+    names: Vec<Vec<Unit>>,
+}
+
+/// Bit `number` of an address; 0 is the highest.
+fn bit(address: u128, number: usize) -> u128 {
+    address & 1 << (127 - number)
+}
+
+impl Graph {
+    /// The graph of a table in order.
+    pub fn new(table: &[u8]) -> Graph {
+        let mut graph = Graph { records: Vec::new(), names: Vec::new() };
+        for record in table.chunks(532).filter(|record| record[1] == 38) {
+            let length = record[2] as usize;
+            let owner = graph.add(plan::name_in(&record[20..276]).expect("an owner"));
+            let target = (length > 0).then(|| graph.add(plan::name_in(&record[276..]).expect("a target")));
+            let address = u128::from_be_bytes(record[4..20].try_into().expect("sixteen octets"));
+            graph.records.push(Record { owner, length, address, target });
+        }
+        graph
+    }
+
+    fn add(&mut self, name: Vec<Unit>) -> usize {
+        self.find(&name).unwrap_or_else(|| {
+            self.names.push(name);
+            self.names.len() - 1
+        })
+    }
+
+    fn find(&self, name: &[Unit]) -> Option<usize> {
+        self.names.iter().position(|known| known == name)
+    }
+
+    /// The names in the table's A6 records, owners and targets.
+    pub fn names(&self) -> &[Vec<Unit>] {
+        &self.names
+    }
+
+    /// The positions of a name's records whose prefix length is at most `most`.
+    fn owned(&self, name: usize, most: usize) -> Vec<usize> {
+        let fits = |at: &usize| self.records[*at].owner == name && self.records[*at].length <= most;
+        (0..self.records.len()).filter(fits).collect()
+    }
+
+    /// The records that may follow each: those of its target that are no longer.
+    fn followers(&self) -> Vec<Vec<usize>> {
+        let after = |record: &Record| record.target.map_or(vec![], |target| self.owned(target, record.length));
+        self.records.iter().map(after).collect()
+    }
+
+    /// The address that a complete chain spells, one bit after another: each from the earliest record in the chain
+    /// whose prefix length is not greater than the bit's number.
+    fn spelt(&self, chain: &[usize]) -> u128 {
+        let records: Vec<&Record> = chain.iter().map(|at| &self.records[*at]).collect();
+        let from = |number: usize| records.iter().find(|record| record.length <= number).expect("a complete chain");
+        (0..128).map(|number| bit(from(number).address, number)).sum()
+    }
+
+    /// The work of a name and the addresses of its complete chains without repeats; None where the work is more than
+    /// `most`.
+    pub fn chains(&self, name: &[Unit], most: usize) -> Option<(usize, BTreeSet<u128>)> {
+        let mut found = (0, BTreeSet::new());
+        let Some(name) = self.find(name) else { return Some(found) };
+        let followers = self.followers();
+        // Chains that are still to be counted and made longer.
+        let mut waiting: Vec<Vec<usize>> = self.owned(name, 128).into_iter().map(|at| vec![at]).collect();
+        while let Some(chain) = waiting.pop() {
+            found.0 += 1;
+            if found.0 + waiting.len() > most {
+                return None;
+            }
+            let last = chain[chain.len() - 1];
+            if self.records[last].length == 0 {
+                found.1.insert(self.spelt(&chain));
+            }
+            let unused = followers[last].iter().filter(|at| !chain.contains(at));
+            waiting.extend(unused.map(|at| [&chain[..], &[*at]].concat()));
+        }
+        Some(found)
+    }
+
+    /// The addresses of all complete finite chains of a name, repeats allowed: from each state (a name to go on with,
+    /// how many bits are open, the others) the records of the name lead to addresses or to further states, until no
+    /// new state comes up.
+    pub fn addresses(&self, name: &[Unit]) -> BTreeSet<u128> {
+        let mut found = BTreeSet::new();
+        let Some(name) = self.find(name) else { return found };
+        let mut known = HashSet::from([(name, 128, 0)]);
+        let mut new = vec![(name, 128, 0)];
+        while let Some((name, open, suffix)) = new.pop() {
+            for at in self.owned(name, open) {
+                let record = &self.records[at];
+                let between: u128 = (record.length..open).map(|number| bit(record.address, number)).sum();
+                let suffix = suffix + between;
+                match record.target {
+                    None => _ = found.insert(suffix),
+                    Some(target) => {
+                        let state = (target, record.length, suffix);
+                        if known.insert(state) {
+                            new.push(state);
+                        }
+                    }
+                }
+            }
+        }
+        found
+    }
+}
+
+/// The answer of `a6plan_lookup` for an output and figures of these lengths. None where the work passes `most` chains
+/// and the limit does not settle it.
+pub fn lookup(table: &[u8], name: &[u8], limit: u32, out: usize, figures: usize, most: usize) -> Option<Answer> {
+    let refusal = |number| Some((number, vec![0; out], vec![0; figures]));
+    let number = plan::check(table);
+    if number != 0 {
+        return refusal(number);
+    }
+    let Some(name) = names::whole(name) else { return refusal(4) };
+    if !out.is_multiple_of(16) || figures != 2 {
+        return refusal(5);
+    }
+    let graph = Graph::new(table);
+    let Some((work, _)) = graph.chains(&name, most.min(limit as usize)) else {
+        return if limit as usize <= most { refusal(6) } else { None };
+    };
+    let addresses = graph.addresses(&name);
+    if addresses.len() > out / 16 {
+        return refusal(7);
+    }
+    let mut octets: Vec<u8> = addresses.iter().flat_map(|address| address.to_be_bytes()).collect();
+    octets.resize(out, 0);
+    Some((0, octets, vec![addresses.len() as u32, work as u32]))
+}

@@ -1,0 +1,80 @@
+//! Reverse names (01, Reverse names) as lists of units.
+
+use super::names::{self, Unit};
+use super::{plan, Answer};
+
+/// The units of the name that stands for an address: its bits, the lowest first, then IP6 and ARPA.
+pub fn start(address: &[u8]) -> Vec<Unit> {
+    let bits = address.iter().flat_map(|octet| (0..8).map(move |bit| octet >> (7 - bit) & 1 == 1));
+    let mut units: Vec<Unit> = bits.map(Unit::Bit).collect();
+    units.reverse();
+    units.extend([Unit::Label(b"IP6".to_vec()), Unit::Label(b"ARPA".to_vec())]);
+    units
+}
+
+/// A DNAME: its owner's units and its target's.
+pub type Dname = (Vec<Unit>, Vec<Unit>);
+
+/// The DNAMEs of a table in order.
+pub fn dnames(table: &[u8]) -> Vec<Dname> {
+    let name = |slot: &[u8]| plan::name_in(slot).expect("a name");
+    let dnames = table.chunks(532).filter(|record| record[1] == 39);
+    dnames.map(|record| (name(&record[20..276]), name(&record[276..]))).collect()
+}
+
+/// The DNAME of most units among those with the name strictly beneath their owners.
+fn applying<'a>(dnames: &'a [Dname], name: &[Unit]) -> Option<&'a Dname> {
+    let beneath = |(owner, _): &&Dname| name.len() > owner.len() && name.ends_with(owner);
+    dnames.iter().filter(beneath).max_by_key(|(owner, _)| owner.len())
+}
+
+/// The longest run of bits in a list of units.
+fn longest_run(units: &[Unit]) -> usize {
+    units.split(|unit| matches!(unit, Unit::Label(_))).map(|run| run.len()).max().unwrap_or(0)
+}
+
+/// The name that a rewrite gives; None where none is due, 8 where it gives too much.
+pub fn step(dnames: &[Dname], name: &[Unit]) -> Option<Result<Vec<Unit>, u32>> {
+    let (owner, target) = applying(dnames, name)?;
+    let below = &name[..name.len() - owner.len()];
+    let next = [below, target].concat();
+    Some(if longest_run(&next) > 256 || names::encode(&next).len() > 255 { Err(8) } else { Ok(next) })
+}
+
+/// The end of the walk and the number of rewrites, or 6 or 8.
+pub fn walk(dnames: &[Dname], start: Vec<Unit>, limit: u8) -> Result<(Vec<Unit>, u32), u32> {
+    let mut name = start;
+    let mut rewrites = 0;
+    while let Some(next) = step(dnames, &name) {
+        if rewrites == limit as u32 {
+            return Err(6);
+        }
+        name = next?;
+        rewrites += 1;
+    }
+    Ok((name, rewrites))
+}
+
+/// The answer of `a6plan_reverse` for an output and figures of these lengths.
+pub fn lookup(table: &[u8], address: &[u8], limit: u8, out: usize, figures: usize) -> Answer {
+    let refusal = |number| (number, vec![0; out], vec![0; figures]);
+    let number = plan::check(table);
+    if number != 0 {
+        return refusal(number);
+    }
+    if address.len() != 16 {
+        return refusal(4);
+    }
+    if out != 255 || figures != 2 {
+        return refusal(5);
+    }
+    match walk(&dnames(table), start(address), limit) {
+        Err(number) => refusal(number),
+        Ok((name, rewrites)) => {
+            let mut octets = names::encode(&name);
+            let length = octets.len() as u32;
+            octets.resize(255, 0);
+            (0, octets, vec![length, rewrites])
+        }
+    }
+}

@@ -1,0 +1,534 @@
+//! `a6plan_collapse` against the reference and the plain rules, and lists of collapses (01, Collapse of a name X).
+
+use a6plan_tests::generate::examples::{self, address};
+use a6plan_tests::generate::forward::{self as make, Tangle};
+use a6plan_tests::generate::names::{self, Name};
+use a6plan_tests::generate::plan::{self, a6_record, dname_record, name, realistic};
+use a6plan_tests::generate::Random;
+use a6plan_tests::lent::{self, Pair};
+use a6plan_tests::plain::collapse::{self as plain, Plan};
+use a6plan_tests::plain::forward::Graph;
+use a6plan_tests::plain::names::{whole, Unit};
+use a6plan_tests::plain::plan::check;
+use a6plan_tests::reference::collapse as reference;
+use a6plan_tests::reference::plan::{MOST, RECORD};
+use a6plan_tests::{ffi, text};
+use std::collections::BTreeSet;
+
+/// Memory for the library's call and for the reference's.
+struct Sides {
+    out: Pair<u8>,
+    figures: Pair<u32>,
+}
+
+impl Sides {
+    fn new() -> Sides {
+        Sides { out: lent::octets(1_200 * RECORD), figures: lent::figures(4) }
+    }
+
+    /// The library's number. Its answer, every octet of the output and the figures are the reference's, and nothing
+    /// beside them has changed.
+    fn number(&mut self, table: &[u8], name: &[u8], out: usize, figures: usize) -> u32 {
+        let number = ffi::collapse(table, name, self.out.library(out), self.figures.library(figures));
+        let expected = reference::collapse(table, name, self.out.reference(out), self.figures.reference(figures));
+        let records = table.len() / RECORD;
+        assert_eq!(number, expected, "{name:02x?} in {records} records, output {out}");
+        assert!(self.out.agree(), "{name:02x?} in {records} records: the output differs");
+        assert!(self.figures.agree(), "{name:02x?} in {records} records: figures {:?}", self.figures.shown());
+        if number != 0 {
+            assert!(self.out.shown().iter().all(|octet| *octet == 0), "a refusal leaves zeros");
+            assert!(self.figures.shown().iter().all(|figure| *figure == 0), "a refusal leaves zeros");
+        }
+        number
+    }
+
+    /// The number with room for so many records and two figures.
+    fn within(&mut self, table: &[u8], name: &[u8], room: usize) -> u32 {
+        self.number(table, name, room * RECORD, 2)
+    }
+
+    /// The table that the library left.
+    fn shown(&self) -> &[u8] {
+        let [records, zero] = self.figures.shown() else { panic!("two figures") };
+        let (table, rest) = self.out.shown().split_at(*records as usize * RECORD);
+        assert!(rest.iter().all(|octet| *octet == 0), "zeros after the records");
+        assert_eq!(*zero, 0);
+        table
+    }
+
+    /// The table in which the name is collapsed.
+    fn collapsed(&mut self, table: &[u8], name: &[u8]) -> Vec<u8> {
+        let room = 4 * (table.len() / RECORD) + 4;
+        assert_eq!(self.within(table, name, room.min(MOST)), 0, "{name:02x?} is collapsed");
+        self.shown().to_vec()
+    }
+}
+
+/// An A6 record from texts; no target at prefix length 0.
+fn a6(owner: &str, length: u8, suffix: &str, target: &str) -> [u8; RECORD] {
+    let target = if length == 0 { vec![] } else { name(target) };
+    a6_record(&name(owner), length, address(suffix), &target)
+}
+
+// 01's examples.
+
+#[test]
+fn a_host_takes_the_bits_of_its_prefix() {
+    let collapsed = Sides::new().collapsed(&examples::host(), &name("h.a"));
+    let expected = [a6("h.a", 0, "2001:db8:0:5::7", ""), a6("p.a", 0, "2001:db8:0:5::", "")];
+    assert_eq!(collapsed, expected.concat());
+}
+
+/// 01, Errors we have met, 5: without the test the host would gain an address.
+#[test]
+fn a_name_with_a_record_that_a_referrer_ignores_is_refused() {
+    let mut sides = Sides::new();
+    let table = examples::ignored();
+    for room in [0, 1, 3, 4, MOST] {
+        assert_eq!(sides.within(&table, &name("p.a"), room), 9, "room {room}");
+    }
+    let units = whole(&name("p.a")).expect("a name");
+    let host = whole(&name("h.a")).expect("a name");
+    let without_test = Graph::new(&Plan::new(&table).fold(&units)).addresses(&host);
+    let gained: Vec<u128> = without_test.difference(&Graph::new(&table).addresses(&host)).copied().collect();
+    assert_eq!(gained, [address("2001:db8:1::")]);
+    // The others can be collapsed.
+    let expected = [a6("h.a", 0, "2001:db8::", "").to_vec(), table[RECORD..].to_vec()].concat();
+    assert_eq!(sides.collapsed(&table, &name("h.a")), expected);
+    assert_eq!(sides.collapsed(&table, &name("q.a")), table);
+}
+
+/// The record that leads back to its owner is one of the records that take its place.
+#[test]
+fn a_loop_keeps_its_record_and_gains_a_finished_one() {
+    let mut sides = Sides::new();
+    let table = examples::loop_of_one();
+    let back = a6("x.a", 48, "::1", "x.a");
+    let expected = [back, a6("x.a", 0, "2001:db8::1", ""), a6("x.a", 0, "2001:db8::", "")].concat();
+    assert_eq!(sides.collapsed(&table, &name("x.a")), expected);
+    let finished = a6("x.a", 0, "2001:db8::1", "");
+    let again = [back, finished, finished, finished, a6("x.a", 0, "2001:db8::", "")].concat();
+    assert_eq!(sides.collapsed(&expected, &name("x.a")), again);
+}
+
+/// RFC 2874, 5.1.2: each name server collapsed twice has the records of the second option, and collapsed as far as it
+/// goes those of the third; the other records stay.
+#[test]
+fn the_second_and_third_glue_of_section_5_1_2_are_collapses_of_the_first() {
+    let mut sides = Sides::new();
+    let mut table = [examples::glue(1), examples::carriers()].concat();
+    let others = table[2 * RECORD..].to_vec();
+    for (option, times) in [(2, 2), (3, 3)] {
+        for server in ["NS1.X.EXAMPLE", "NS2.X.EXAMPLE"] {
+            for _ in 0..times {
+                table = sides.collapsed(&table, &name(server));
+            }
+        }
+        assert_eq!(table, [examples::glue(option), others.clone()].concat(), "option {option}");
+    }
+    // By way of the subnets and the site: the same glue, and shorter chains for the others.
+    let mut table = [examples::glue(1), examples::carriers()].concat();
+    for owner in ["IP6.X.EXAMPLE", "SUBNET-1.IP6.X.EXAMPLE", "NS1.X.EXAMPLE"] {
+        while table.chunks(RECORD).any(|record| record[2] > 0 && record[21..].starts_with(&name(owner))) {
+            table = sides.collapsed(&table, &name(owner));
+        }
+    }
+    assert_eq!(table[..3 * RECORD], examples::glue(3)[..3 * RECORD]);
+}
+
+// The rule.
+
+/// A record goes where its target owns nothing, or nothing that is no longer.
+#[test]
+fn a_record_with_nothing_to_take_its_place_goes() {
+    let mut sides = Sides::new();
+    let keep = a6("o", 0, "::5", "");
+    let table = [keep, a6("x", 48, "::1", "nobody"), keep].concat();
+    assert_eq!(sides.collapsed(&table, &name("x")), [keep, keep].concat());
+    let longer = a6("p", 49, "::2", "o");
+    let table = [a6("x", 48, "::1", "p"), longer].concat();
+    assert_eq!(sides.collapsed(&table, &name("x")), longer);
+    let table = a6("x", 48, "::1", "nobody");
+    assert_eq!(sides.within(&table, &name("x"), 0), 0, "no records need no room");
+    assert_eq!(sides.shown(), []);
+    let dname = dname_record(&name("p"), &name("o"));
+    let table = [a6("x", 48, "::1", "p"), dname].concat();
+    assert_eq!(sides.collapsed(&table, &name("x")), dname, "a DNAME takes no record's place");
+}
+
+/// Each of the name's records is replaced at its place, by the table before; all else is copied, DNAMEs too.
+#[test]
+fn the_records_that_take_a_place_stand_in_table_order() {
+    let mut sides = Sides::new();
+    let dname = dname_record(&name("x"), &name("q"));
+    let table = [
+        a6("q", 0, "2001:db8::", ""),
+        a6("x", 64, "::1", "p"),
+        dname,
+        a6("p", 32, "0:0:2::", "q"),
+        a6("x", 0, "::9", ""),
+        a6("x", 48, "::3", "q"),
+        a6("p", 64, "::", "x"),
+        a6("p", 65, "::", "q"),
+        a6("x", 64, "::4", "nobody"),
+    ];
+    let expected = [
+        table[0],
+        a6("x", 32, "0:0:2::1", "q"),
+        a6("x", 64, "::1", "x"),
+        dname,
+        table[3],
+        table[4],
+        a6("x", 0, "2001:db8::3", ""),
+        table[6],
+        table[7],
+    ];
+    assert_eq!(sides.collapsed(&table.concat(), &name("x")), expected.concat());
+}
+
+/// Every pair of prefix lengths: which bits come from which record, and which record is too long.
+#[test]
+fn every_pair_of_prefix_lengths() {
+    let mut sides = Sides::new();
+    let mut random = Random::new(51);
+    let any = |random: &mut Random| (random.number() as u128) << 64 | random.number() as u128;
+    for own in 1..=128 {
+        for other in 0..=128 {
+            let (one, two) = (any(&mut random), any(&mut random));
+            let target = if other == 0 { vec![] } else { name("q") };
+            let table = [a6_record(&name("x"), own, one, &name("p")), a6_record(&name("p"), other, two, &target)];
+            let kept = u128::MAX.checked_shr(own as u32).unwrap_or(0);
+            let both = one & kept | two & !kept;
+            let expected = if other <= own {
+                [a6_record(&name("x"), other, both, &target), table[1]].concat()
+            } else {
+                table[1].to_vec()
+            };
+            assert_eq!(sides.collapsed(&table.concat(), &name("x")), expected, "{own} and {other}");
+        }
+    }
+}
+
+/// 9 is exact: every pair of a referrer's length and an unfinished record's, wherever they stand, also where nothing
+/// would come back. Finished records and DNAMEs refuse nothing.
+#[test]
+fn every_pair_of_a_referrer_and_a_record_of_the_name() {
+    let mut sides = Sides::new();
+    for referrer in 1..=128 {
+        for own in 0..=128 {
+            let (refers, record) = (a6("r", referrer, "::", "x"), a6("x", own, "::", "nobody"));
+            let expected = if own > referrer { 9 } else { 0 };
+            for table in [[refers, record], [record, refers]] {
+                assert_eq!(sides.within(&table.concat(), &name("x"), 8), expected, "{referrer} and {own}");
+            }
+        }
+    }
+    let long = a6("x", 128, "::", "nobody");
+    for other in [dname_record(&name("r"), &name("x")), a6("r", 0, "::", ""), a6("r", 1, "::", "y")] {
+        assert_eq!(sides.within(&[other, long].concat(), &name("x"), 8), 0);
+    }
+    // The name's own records are referrers, to themselves and to each other.
+    assert_eq!(sides.within(&a6("x", 48, "::", "x"), &name("x"), 8), 0);
+    assert_eq!(sides.within(&[a6("x", 48, "::", "x"), a6("x", 48, "::1", "x")].concat(), &name("x"), 8), 0);
+    for table in [[a6("x", 48, "::", "x"), a6("x", 49, "::", "p")], [a6("x", 49, "::", "p"), a6("x", 48, "::", "x")]] {
+        assert_eq!(sides.within(&table.concat(), &name("x"), 8), 9);
+    }
+}
+
+#[test]
+fn a_name_with_nothing_unfinished_gives_a_copy_or_7() {
+    let mut sides = Sides::new();
+    let table = realistic().table;
+    for owner in ["nobody", "", "IP6.UPSTREAM-3.NET"] {
+        assert_eq!(sides.collapsed(&table, &name(owner)), table, "{owner}");
+        assert_eq!(sides.within(&table, &name(owner), MOST - 1), 7, "{owner}");
+        assert_eq!(sides.within(&table, &name(owner), 0), 7, "{owner}");
+    }
+    assert_eq!(sides.within(&[], &name("x"), 0), 0);
+    assert_eq!(sides.shown(), []);
+}
+
+/// The given name need not be in standard form.
+#[test]
+fn any_spelling_of_a_name_is_collapsed() {
+    let mut sides = Sides::new();
+    let mut random = Random::new(52);
+    let owner = text::name(r"\[xABCDEF12/32].h.\[xF0/5].a");
+    let table = [a6_record(&owner, 64, 7, &name("p")), a6("p", 0, "2001:db8::", "")].concat();
+    let expected = sides.collapsed(&table, &owner);
+    assert_eq!(expected[2], 0);
+    for _ in 0..200 {
+        let spelling = names::respelt(&mut random, &owner);
+        assert_eq!(sides.collapsed(&table, &spelling), expected, "{spelling:02x?}");
+    }
+}
+
+// Room, and 1,024 records.
+
+/// A table of `rest` records that stay, `own` unfinished ones of x, and `others` that take the place of each.
+fn fanned(rest: usize, own: usize, others: usize) -> Vec<u8> {
+    let stay = (0..rest).map(|index| a6_record(&name("o"), 0, index as u128, &[]));
+    let go = (0..own).map(|index| a6_record(&name("x"), 64, index as u128, &name("p")));
+    let come = (0..others).map(|index| a6_record(&name("p"), 0, (index as u128) << 64, &[]));
+    stay.chain(go).chain(come).flatten().collect()
+}
+
+#[test]
+fn results_of_1024_records_are_taken_and_of_1025_refused() {
+    let mut sides = Sides::new();
+    let shapes = [
+        (1_022, 1, 1),
+        (1_020, 1, 2),
+        (1_021, 1, 2),
+        (974, 1, 25),
+        (975, 1, 25),
+        (0, 1, 512),
+        (1, 1, 512),
+        (0, 1, 1_023),
+        (1_023, 1, 0),
+        (1_000, 24, 0),
+        (1, 32, 31),
+        (2, 32, 31),
+        (0, 32, 32),
+        (0, 512, 512),
+        (0, 1_023, 1),
+    ];
+    let mut met = [0; 2];
+    for (rest, own, others) in shapes {
+        let table = fanned(rest, own, others);
+        assert!(table.len() <= MOST * RECORD);
+        let records = rest + others + own * others;
+        met[(records > MOST) as usize] += 1;
+        for room in [records, records + 1, records.saturating_sub(1), records / 2, 0, MOST - 1, MOST, MOST + 1, 1_100] {
+            if room <= 1_200 {
+                let expected = if records > room || records > MOST { 7 } else { 0 };
+                assert_eq!(sides.within(&table, &name("x"), room), expected, "{rest}, {own}, {others}: room {room}");
+            }
+        }
+    }
+    assert_eq!(met, [8, 7]);
+    // A thousand times a thousand.
+    let loops = make::one_name(MOST, 0);
+    assert_eq!(sides.within(&loops.table, &loops.names[0], 1_200), 7);
+}
+
+// The numbers and their order.
+
+#[test]
+fn the_first_number_that_is_earned_is_given() {
+    let mut sides = Sides::new();
+    let good = examples::ignored();
+    let shared = dname_record(&name("s.a"), &name("t.a"));
+    let mut bad = good.clone();
+    bad[3] = 1;
+    let tables = [
+        (good.clone(), 0),
+        (good[1..].to_vec(), 1),
+        (good.repeat(257), 1),
+        (bad, 2),
+        ([&good[..], &shared, &shared].concat(), 3),
+    ];
+    let names =
+        [(name("p.a"), 0, 9), (name("h.a"), 0, 0), (vec![], 4, 0), (vec![1, b'h', 0, 0], 4, 0), (vec![0xc0, 0], 4, 0)];
+    for (table, of_table) in &tables {
+        for (name, of_name, of_lengths) in &names {
+            for out in [0, 1, RECORD - 1, RECORD, 3 * RECORD, 4 * RECORD, 4 * RECORD + 1, 5 * RECORD] {
+                for figures in [2, 0, 1, 3, 4] {
+                    let of_output = if out % RECORD != 0 || figures != 2 { 5 } else { 0 };
+                    let of_room = if out < 4 * RECORD { 7 } else { 0 };
+                    let earned = [*of_table, *of_name, of_output, *of_lengths, of_room];
+                    let first = earned.into_iter().find(|number| *number != 0).unwrap_or(0);
+                    assert_eq!(sides.number(table, name, out, figures), first);
+                }
+            }
+        }
+    }
+}
+
+// Generated tables.
+
+const GENERATED: usize = 200_000;
+
+/// Library, reference and plain rules agree on every octet, and every number comes up: tables damaged and not, names
+/// good and malformed, rooms exact, one less, none and more, outputs and figures of any length.
+#[test]
+fn generated_collapses_agree_octet_for_octet() {
+    let mut sides = Sides::new();
+    let mut random = Random::new(53);
+    let (mut made, mut tangle) = (Name::new(), Tangle::default());
+    let mut met = [0; 10];
+    let (mut folded, mut cases) = (0, 0);
+    while cases < GENERATED {
+        if random.once_in(3) {
+            make::layers(&mut random, &mut made, 9, &mut tangle);
+        } else {
+            make::tangle(&mut random, &mut made, 9, &mut tangle);
+        }
+        let Tangle { table, names } = &mut tangle;
+        plan::spoil(&mut random, &mut made, table);
+        let mut name = names[random.below(names.len())].clone();
+        match random.below(16) {
+            0 => {
+                names::any(&mut random, &mut made);
+                name.clone_from(&made.octets);
+            }
+            1..=3 => name = names::respelt(&mut random, &name),
+            _ => {}
+        }
+        // As many records as the rule makes, and so on.
+        let records = match whole(&name) {
+            Some(units) if check(table) == 0 => Plan::new(table).fold(&units).len() / RECORD,
+            _ => 3,
+        };
+        let mut rooms = vec![records];
+        rooms.extend(match random.below(4) {
+            0 => Some(records.saturating_sub(1)),
+            1 => Some(0),
+            2 => Some(records + random.between(1, 3)),
+            _ => None,
+        });
+        for room in rooms {
+            let out = if random.once_in(16) { random.below(3 * RECORD) } else { room * RECORD };
+            let figures = if random.once_in(20) { random.below(5) } else { 2 };
+            let number = sides.number(table, &name, out, figures);
+            met[number as usize] += 1;
+            let shown = (number, sides.out.shown().to_vec(), sides.figures.shown().to_vec());
+            assert_eq!(shown, plain::collapse(table, &name, out, figures), "case {cases}");
+            folded += (number == 0 && shown.1 != *table) as usize;
+            cases += 1;
+        }
+    }
+    println!("collapse: {met:?}, {folded} changed their tables");
+    for number in [0, 1, 2, 3, 4, 5, 7, 9] {
+        assert!(met[number] > GENERATED / 100, "{number} comes up {} times", met[number]);
+    }
+    assert!(folded > GENERATED / 5);
+}
+
+/// The address sets of these names.
+fn address_sets(table: &[u8], names: &[Vec<Unit>]) -> Vec<BTreeSet<u128>> {
+    let graph = Graph::new(table);
+    names.iter().map(|name| graph.addresses(name)).collect()
+}
+
+/// Lists of collapses in each half.
+const LISTS: usize = 100_000;
+
+#[test]
+fn lists_of_collapses_keep_the_addresses_of_every_name() {
+    lists(54);
+}
+
+#[test]
+fn other_lists_of_collapses_keep_the_addresses_of_every_name() {
+    lists(55);
+}
+
+/// Demand 3 on generated tables: lists of up to 20 calls with any names and outputs, the table in hand in order
+/// throughout, every call as the plain rules say, and after each that changed the table every name with the addresses
+/// of the first one. Counts how often test 9 was needed: the fold that it refused would have changed some addresses.
+fn lists(seed: u64) {
+    let mut sides = Sides::new();
+    let mut random = Random::new(seed);
+    let (mut made, mut tangle) = (Name::new(), Tangle::default());
+    let mut met = [0; 10];
+    let (mut changed, mut needed, mut lost) = (0, 0, 0);
+    for list in 0..LISTS {
+        if random.once_in(4) {
+            make::tangle(&mut random, &mut made, 7, &mut tangle);
+        } else {
+            make::layers(&mut random, &mut made, 8, &mut tangle);
+        }
+        let mut table = tangle.table.clone();
+        let mut names = Graph::new(&table).names().to_vec();
+        names.push(whole(&name("nobody.at.all")).expect("a name"));
+        let first = address_sets(&table, &names);
+        let calls = if random.once_in(12) { random.between(5, 20) } else { random.between(0, 4) };
+        for _ in 0..calls {
+            let mut given = tangle.names[random.below(tangle.names.len())].clone();
+            match random.below(24) {
+                0 => {
+                    names::any(&mut random, &mut made);
+                    given.clone_from(&made.octets);
+                }
+                1 | 2 => given = names::respelt(&mut random, &given),
+                _ => {}
+            }
+            let out = match random.below(16) {
+                0 => random.below(20 * RECORD),
+                1 | 2 => random.below(12) * RECORD,
+                _ => 40 * RECORD,
+            };
+            let number = sides.number(&table, &given, out, 2);
+            met[number as usize] += 1;
+            let Some(units) = whole(&given) else {
+                assert_eq!(number, 4, "list {list}");
+                continue;
+            };
+            if !out.is_multiple_of(RECORD) {
+                assert_eq!(number, 5, "list {list}");
+                continue;
+            }
+            let plan = Plan::new(&table);
+            assert_eq!(number == 9, plan.is_reviving(&units), "list {list}");
+            let folded = plan.fold(&units);
+            match number {
+                9 => needed += (address_sets(&folded, &names) != first) as usize,
+                7 => assert!(folded.len() > out, "list {list}"),
+                _ => {
+                    assert_eq!(number, 0, "list {list}");
+                    assert!(sides.shown() == folded, "list {list}");
+                    if folded != table {
+                        assert_eq!(check(&folded), 0, "list {list}");
+                        assert_eq!(address_sets(&folded, &names), first, "list {list}");
+                        changed += 1;
+                        lost += !Plan::new(&folded).owns(&units) as usize;
+                        table = folded;
+                    }
+                }
+            }
+        }
+    }
+    println!("lists: {met:?}, {changed} changed the table, {needed} times 9 was needed, {lost} names lost all records");
+    assert!(changed > LISTS / 2 && lost > LISTS / 100);
+    assert!(met[4] > LISTS / 20 && met[5] > LISTS / 20 && met[7] > LISTS / 50);
+    assert!(needed * 5 > met[9], "9 was needed {needed} of {} times", met[9]);
+}
+
+/// Large tables: every name of the realistic one collapsed, and a list of collapses that ends with none unfinished.
+#[test]
+fn large_tables_agree() {
+    let mut sides = Sides::new();
+    let plan = realistic();
+    for name in plan.hosts.iter().chain(&plan.sites).chain(&plan.upstreams) {
+        let number = sides.within(&plan.table, name, MOST);
+        assert!(number == 0 || number == 7, "{number}");
+    }
+    let all = Plan::new(&plan.table);
+    for name in &plan.carriers {
+        assert_eq!(sides.within(&plan.table, name, MOST), 0);
+        assert_eq!(sides.shown(), all.fold(&whole(name).expect("a name")));
+    }
+    let mut table = plan.table.clone();
+    let names: Vec<Vec<Unit>> = plan.hosts.iter().chain(&plan.carriers).filter_map(|name| whole(name)).collect();
+    let first = address_sets(&table, &names);
+    for name in plan.carriers.iter().chain(&plan.hosts[..5]) {
+        if sides.within(&table, name, MOST) == 0 {
+            table = sides.shown().to_vec();
+        }
+    }
+    assert_eq!(address_sets(&table, &names), first);
+    let mut random = Random::new(56);
+    let (mut made, mut tangle) = (Name::new(), Tangle::default());
+    let mut met = [0; 10];
+    for _ in 0..400 {
+        let most = random.pick(&[30, 60, 200, MOST]);
+        make::tangle(&mut random, &mut made, most, &mut tangle);
+        for name in &tangle.names {
+            let room = random.pick(&[0, 100, MOST, MOST + 100]);
+            met[sides.within(&tangle.table, name, room) as usize] += 1;
+        }
+    }
+    println!("collapse of large tables: {met:?}");
+    assert!([0, 7, 9].iter().all(|number| met[*number] > 20));
+}

@@ -1,0 +1,723 @@
+//! `a6plan_lookup` and the program `lookup` against the reference and the plain rules (01, Chains).
+
+use a6plan_tests::generate::examples::{self, address};
+use a6plan_tests::generate::forward::{self as make, Tangle};
+use a6plan_tests::generate::names::{self, Name};
+use a6plan_tests::generate::plan::{self, a6_record, dname_record, name};
+use a6plan_tests::generate::Random;
+use a6plan_tests::lent::{self, Pair};
+use a6plan_tests::plain::forward::{self as plain, Graph};
+use a6plan_tests::plain::names::{encode, whole};
+use a6plan_tests::reference::forward as reference;
+use a6plan_tests::reference::plan::{MOST, RECORD};
+use a6plan_tests::{ffi, text};
+use std::collections::BTreeSet;
+use std::io::Write;
+use std::path::Path;
+use std::process::{Command, Stdio};
+use std::thread;
+
+/// Memory for the library's call and for the reference's.
+struct Sides {
+    out: Pair<u8>,
+    figures: Pair<u32>,
+}
+
+impl Sides {
+    fn new() -> Sides {
+        Sides { out: lent::octets(16 * 4096), figures: lent::figures(4) }
+    }
+
+    /// The library's number. Its answer, every octet of the output and the figures are the reference's, and nothing
+    /// beside them has changed.
+    fn number(&mut self, table: &[u8], name: &[u8], limit: u32, out: usize, figures: usize) -> u32 {
+        let number = ffi::lookup(table, name, limit, self.out.library(out), self.figures.library(figures));
+        let expected = reference::lookup(table, name, limit, self.out.reference(out), self.figures.reference(figures));
+        let records = table.len() / RECORD;
+        assert_eq!(number, expected, "{name:02x?} in {records} records, limit {limit}, output {out}");
+        assert!(self.out.agree(), "{name:02x?} in {records} records: output {:02x?}", self.out.shown());
+        assert!(self.figures.agree(), "{name:02x?} in {records} records: figures {:?}", self.figures.shown());
+        if number != 0 {
+            assert!(self.out.shown().iter().all(|octet| *octet == 0), "a refusal leaves zeros");
+            assert!(self.figures.shown().iter().all(|figure| *figure == 0), "a refusal leaves zeros");
+        }
+        number
+    }
+
+    /// The number with whole addresses as room and two figures.
+    fn within(&mut self, table: &[u8], name: &[u8], limit: u32, room: usize) -> u32 {
+        self.number(table, name, limit, 16 * room, 2)
+    }
+
+    /// The addresses and the work of a lookup that is accepted.
+    fn found(&mut self, table: &[u8], name: &[u8]) -> (Vec<u128>, u32) {
+        assert_eq!(self.within(table, name, 1_000_000, 4_000), 0);
+        self.shown()
+    }
+
+    /// The addresses and the work that the library left.
+    fn shown(&self) -> (Vec<u128>, u32) {
+        let [count, work] = self.figures.shown() else { panic!("two figures") };
+        let (addresses, _) = self.out.shown().as_chunks();
+        let (addresses, rest) = addresses.split_at(*count as usize);
+        assert!(rest.iter().flatten().all(|octet| *octet == 0), "zeros after the addresses");
+        let addresses: Vec<u128> = addresses.iter().map(|octets| u128::from_be_bytes(*octets)).collect();
+        assert!(addresses.is_sorted_by(|one, other| one < other), "each address once, in rising order");
+        (addresses, *work)
+    }
+
+    /// The library's answers are those of the plain rules, which say the addresses and the work, with limits and rooms
+    /// at these, one less, zero and large. Gives the number of calls.
+    fn around(&mut self, table: &[u8], name: &[u8], addresses: &BTreeSet<u128>, work: u32) -> usize {
+        let count = addresses.len();
+        let mut limits = vec![(work, count), (u32::MAX, count + 3)];
+        if work > 0 {
+            limits.extend([(work - 1, count), (0, 0)]);
+        }
+        if count > 0 {
+            limits.extend([(work, count - 1), (work, 0), (work - 1, count - 1)]);
+        }
+        for (limit, room) in &limits {
+            let expected = if work > *limit {
+                6
+            } else if count > *room {
+                7
+            } else {
+                0
+            };
+            assert_eq!(self.within(table, name, *limit, *room), expected, "limit {limit}, room {room}");
+            if expected == 0 {
+                let (shown, counted) = self.shown();
+                assert!(shown.iter().eq(addresses), "{shown:x?} for {addresses:x?}");
+                assert_eq!(counted, work);
+            }
+        }
+        limits.len()
+    }
+}
+
+fn addresses(texts: &[&str]) -> Vec<u128> {
+    texts.iter().map(|text| address(text)).collect()
+}
+
+// 01's examples.
+
+#[test]
+fn a_host_and_its_prefix_give_one_address_and_work_2() {
+    let found = Sides::new().found(&examples::host(), &name("h.a"));
+    assert_eq!(found, (addresses(&["2001:db8:0:5::7"]), 2));
+}
+
+#[test]
+fn a_loop_gives_two_addresses_and_work_3() {
+    let mut sides = Sides::new();
+    let (table, owner) = (examples::loop_of_one(), name("x.a"));
+    assert_eq!(sides.found(&table, &owner), (addresses(&["2001:db8::", "2001:db8::1"]), 3));
+    assert_eq!(sides.within(&table, &owner, 3, 2), 0);
+    assert_eq!(sides.within(&table, &owner, 2, 2), 6);
+    assert_eq!(sides.within(&table, &owner, 3, 1), 7);
+    assert_eq!(sides.within(&table, &owner, 2, 1), 6);
+}
+
+#[test]
+fn a_longer_record_is_ignored_for_its_referrer_only() {
+    let mut sides = Sides::new();
+    let table = examples::ignored();
+    assert_eq!(sides.found(&table, &name("h.a")), (addresses(&["2001:db8::"]), 2));
+    assert_eq!(sides.found(&table, &name("p.a")), (addresses(&["2001:db8::", "2001:db8:1::1"]), 3));
+    // The same with a referrer long enough, before and after the one that is not.
+    for length in [64, 65, 128] {
+        let longer = a6_record(&name("h.a"), length, 9, &name("p.a"));
+        for table in [[&longer[..], &table].concat(), [&table[..], &longer].concat()] {
+            let (_, work) = sides.found(&table, &name("h.a"));
+            assert_eq!(work, 2 + 4, "a referrer of length {length}");
+        }
+    }
+}
+
+#[test]
+fn section_5_1_gives_three_addresses_in_order_and_work_13() {
+    let three = [
+        "2345:e:eb22:1:1234:5678:9abc:def0",
+        "2345:c1:ca11:1:1234:5678:9abc:def0",
+        "2345:d2:da11:1:1234:5678:9abc:def0",
+    ];
+    let mut sides = Sides::new();
+    let host = name("N.X.EXAMPLE");
+    assert_eq!(sides.found(&examples::section_5_1(), &host), (addresses(&three), 13));
+    // With the carriers' bits in the customers' records: no subscriber names on the way.
+    let (found, _) = sides.found(&examples::section_5_1_3(), &host);
+    assert_eq!(found, addresses(&three));
+}
+
+/// Section 5.1.2: each kind of glue, with the carriers' records, has the name servers at the same addresses, and the
+/// first and third together as well.
+#[test]
+fn the_glue_of_section_5_1_2_gives_the_same_addresses_in_each_option() {
+    let mut sides = Sides::new();
+    let carriers = examples::carriers();
+    for (server, host) in [("NS1.X.EXAMPLE", "1:1:11:111:1111"), ("NS2.X.EXAMPLE", "2:2:22:222:2222")] {
+        let prefixes = ["2345:e:eb22", "2345:c1:ca11", "2345:d2:da11"];
+        let three: Vec<u128> = prefixes.iter().map(|prefix| address(&format!("{prefix}:{host}"))).collect();
+        for options in [&[1][..], &[2], &[3], &[1, 3], &[1, 2, 3]] {
+            let glue: Vec<u8> = options.iter().flat_map(|option| examples::glue(*option)).collect();
+            let (found, _) = sides.found(&[glue, carriers.clone()].concat(), &name(server));
+            assert_eq!(found, three, "options {options:?}");
+        }
+        assert_eq!(sides.found(&examples::glue(3), &name(server)), (three, 3), "the third alone");
+        assert_eq!(sides.found(&examples::glue(2), &name(server)), (vec![], 2), "the second alone");
+    }
+}
+
+// The numbers and their order.
+
+/// Tables, names and outputs, in order and not, limits and rooms, with the numbers that they earn.
+#[test]
+fn the_first_number_that_is_earned_is_given() {
+    let mut sides = Sides::new();
+    let good = examples::host();
+    let shared = dname_record(&name("s.a"), &name("t.a"));
+    let mut bad = good.clone();
+    bad[3] = 1;
+    let tables = [
+        (good.clone(), 0),
+        (vec![], 0),
+        (good[..good.len() - 1].to_vec(), 1),
+        (good.repeat(513), 1),
+        (bad, 2),
+        ([&good[..], &shared, &shared].concat(), 3),
+    ];
+    let names =
+        [(name("h.a"), 0), (vec![], 4), (vec![1, b'h', 0, 0], 4), (vec![0xc0, 0], 4), (vec![65, 1, 0x40, 0], 4)];
+    for (table, of_table) in &tables {
+        for (name, of_name) in &names {
+            for out in [0, 16, 32, 1, 15, 17, 100] {
+                for figures in [2, 0, 1, 3, 4] {
+                    for limit in [0, 2, u32::MAX] {
+                        let of_output = if out % 16 != 0 || figures != 2 { 5 } else { 0 };
+                        let of_work = if !table.is_empty() && limit < 2 { 6 } else { 0 };
+                        let of_room = if !table.is_empty() && out == 0 { 7 } else { 0 };
+                        let earned = [*of_table, *of_name, of_output, of_work, of_room];
+                        let first = earned.into_iter().find(|number| *number != 0).unwrap_or(0);
+                        assert_eq!(sides.number(table, name, limit, out, figures), first);
+                    }
+                }
+            }
+        }
+    }
+}
+
+/// The given name need not be in standard form; its records are found by any spelling.
+#[test]
+fn any_spelling_of_a_name_finds_its_records() {
+    let mut sides = Sides::new();
+    let owner = text::name(r"\[xABCD/16].h.\[xF0/5].a");
+    let table = a6_record(&owner, 0, 7, &[]);
+    for spelling in [
+        r"\[xABCD/16].h.\[xF0/5].a",
+        r"\[xCD/8].\[xAB/8].h.\[xF0/5].a",
+        r"\[xD/4].\[xC/4].\[xB/4].\[xA/4].h.\[x0/1].\[xF/4].a",
+    ] {
+        assert_eq!(sides.found(&table, &text::name(spelling)), (vec![7], 1), "{spelling}");
+    }
+    for other in [r"\[xAB/8].\[xCD/8].h.\[xF0/5].a", r"\[xABCC/16].h.\[xF0/5].a", r"\[xABCD/16].H.\[xF0/5].a", "a", ""]
+    {
+        assert_eq!(sides.found(&table, &text::name(other)), (vec![], 0), "{other}");
+    }
+}
+
+/// The root is a name like any other: it is asked for, owns, and is a target. DNAMEs play no part.
+#[test]
+fn the_root_owns_and_is_a_target_and_dnames_play_no_part() {
+    let mut sides = Sides::new();
+    let (root, host, other) = (name(""), name("h.a"), name("o"));
+    let table = [
+        a6_record(&host, 64, 7, &root),
+        dname_record(&root, &other),
+        a6_record(&root, 32, 5 << 64, &other),
+        dname_record(&host, &other),
+        a6_record(&other, 0, 3 << 96, &[]),
+        dname_record(&other, &root),
+    ]
+    .concat();
+    assert_eq!(sides.found(&table, &host), (vec![3 << 96 | 5 << 64 | 7], 3));
+    assert_eq!(sides.found(&table, &root), (vec![3 << 96 | 5 << 64], 2));
+    let dnames = [dname_record(&host, &other), dname_record(&root, &host)].concat();
+    assert_eq!(sides.found(&dnames, &host), (vec![], 0));
+}
+
+#[test]
+fn no_addresses_and_no_work_pass_limit_0_and_room_0() {
+    let mut sides = Sides::new();
+    assert_eq!(sides.within(&[], &name("h.a"), 0, 0), 0);
+    assert_eq!(sides.within(&examples::host(), &name("o"), 0, 0), 0);
+    let dead_end = a6_record(&name("h.a"), 64, 7, &name("nobody"));
+    assert_eq!(sides.within(&dead_end, &name("h.a"), 0, 0), 6);
+    assert_eq!(sides.within(&dead_end, &name("h.a"), 1, 0), 0);
+    assert_eq!(sides.shown(), (vec![], 1));
+    let done = a6_record(&name("h.a"), 0, 7, &[]);
+    assert_eq!(sides.within(&done, &name("h.a"), 0, 0), 6);
+    assert_eq!(sides.within(&done, &name("h.a"), 1, 0), 7);
+}
+
+/// Equal records at two positions count apart in the work and give one address.
+#[test]
+fn equal_records_count_apart() {
+    let mut sides = Sides::new();
+    for copies in 1..=6_u32 {
+        let done = a6_record(&name("h.a"), 0, 7, &[]).repeat(copies as usize);
+        assert_eq!(sides.found(&done, &name("h.a")), (vec![7], copies));
+        let first = a6_record(&name("h.a"), 64, 1, &name("p.a")).repeat(copies as usize);
+        let then = a6_record(&name("p.a"), 0, 5 << 64, &[]).repeat(copies as usize);
+        let found = sides.found(&[then, first].concat(), &name("h.a"));
+        assert_eq!(found, (vec![5 << 64 | 1], copies + copies * copies));
+    }
+}
+
+/// Every pair of prefix lengths: the second record is met exactly when it is no longer than the first, and each bit
+/// comes from the earliest record that has it.
+#[test]
+fn every_pair_of_prefix_lengths() {
+    let mut sides = Sides::new();
+    let mut random = Random::new(31);
+    let any = |random: &mut Random| (random.number() as u128) << 64 | random.number() as u128;
+    for first in 1..=128 {
+        for second in 0..=128 {
+            let (one, two, three) = (any(&mut random), any(&mut random), any(&mut random));
+            let target = if second == 0 { vec![] } else { name("q") };
+            let table = [
+                a6_record(&name("h"), first, one, &name("p")),
+                a6_record(&name("p"), second, two, &target),
+                a6_record(&name("q"), 0, three, &[]),
+            ]
+            .concat();
+            let bit = |number: u8| {
+                let from = [(first, one), (second, two), (0, three)];
+                let (_, address) = from.iter().find(|(length, _)| *length <= number).expect("the last has every bit");
+                address & 1 << (127 - number)
+            };
+            let spelt: u128 = (0..128).map(bit).sum();
+            let expected = match second {
+                0 => (vec![spelt], 2),
+                _ if second <= first => (vec![spelt], 3),
+                _ => (vec![], 1),
+            };
+            assert_eq!(sides.found(&table, &name("h")), expected, "{first} and {second}");
+        }
+    }
+}
+
+// 6 and 7.
+
+/// The work of these is beyond 32 bits, and most of them beyond any number a machine holds. The search stops at the
+/// limit.
+#[test]
+fn work_beyond_32_bits_is_6_at_once() {
+    let mut sides = Sides::new();
+    let tables = [
+        make::two_each(80),
+        make::two_each(MOST),
+        make::one_name(8, 1_016),
+        make::one_name(MOST, 0),
+        make::one_name(512, 512),
+        make::among(&make::two_each(120), MOST),
+    ];
+    for tangle in &tables {
+        for limit in [0, 1, 2, 100, 65_535, 65_536, 1_000_000] {
+            for room in [0, 1, 64] {
+                assert_eq!(sides.within(&tangle.table, &tangle.names[0], limit, room), 6, "limit {limit}");
+            }
+        }
+    }
+}
+
+/// As above with the largest limit: four thousand million chains are met before the answer, in half a minute or so.
+#[test]
+#[ignore = "takes a minute"]
+fn work_beyond_32_bits_is_6_with_the_largest_limit() {
+    let tangle = make::two_each(80);
+    assert_eq!(Sides::new().within(&tangle.table, &tangle.names[0], u32::MAX, 64), 6);
+}
+
+/// The room fills long before the work is counted: 7 only where the work is within the limit.
+#[test]
+fn a_full_room_goes_on_counting() {
+    let mut sides = Sides::new();
+    let tangle = make::one_name(3, 1_000);
+    let name = &tangle.names[0];
+    // Three loops in any order, each beginning of one followed by each of the finished records.
+    let beginnings = 1 + 3 + 6 + 6;
+    let work = beginnings - 1 + beginnings * 1_000;
+    let (addresses, counted) = sides.found(&tangle.table, name);
+    assert_eq!((addresses.len(), counted), (4_000, work));
+    for (limit, room, number) in
+        [(work, 4_000, 0), (work, 3_999, 7), (work, 0, 7), (work - 1, 4_000, 6), (work - 1, 0, 6)]
+    {
+        assert_eq!(sides.within(&tangle.table, name, limit, room), number, "limit {limit}, room {room}");
+    }
+}
+
+// Depth.
+
+/// A chain of 1,024 records with lengths that stay equal, and one with lengths that fall.
+fn longest_chains() -> Vec<Tangle> {
+    let length = [|_| 64, |step: usize| 128 - (step / 8) as u8];
+    let mut tangles = Vec::new();
+    for length in length {
+        let names: Vec<Vec<u8>> = (0..MOST).map(|step| name(&format!("n{step}.deep"))).collect();
+        let mut table = Vec::new();
+        for step in 0..MOST - 1 {
+            table.extend(a6_record(&names[step], length(step), step as u128, &names[step + 1]));
+        }
+        table.extend(a6_record(&names[MOST - 1], 0, u128::MAX, &[]));
+        tangles.push(Tangle { table, names });
+    }
+    tangles.push(make::one_name(MOST - 1, 1));
+    tangles
+}
+
+#[test]
+fn a_chain_of_1024_records_is_followed_to_its_end() {
+    let mut sides = Sides::new();
+    for tangle in &longest_chains()[..2] {
+        let (found, work) = sides.found(&tangle.table, &tangle.names[0]);
+        assert_eq!((found.len(), work), (1, MOST as u32));
+        assert_eq!(sides.within(&tangle.table, &tangle.names[0], MOST as u32 - 1, 1), 6);
+        let (_, work) = sides.found(&tangle.table, &tangle.names[MOST / 2]);
+        assert_eq!(work, MOST as u32 / 2);
+    }
+}
+
+/// What a thread itself needs beside the call, in octets.
+const THREAD: usize = 64 << 10;
+
+/// A call that goes 1,024 records deep, in a thread with a stack of 1 MiB and a little for the thread.
+#[test]
+fn a_chain_of_1024_records_needs_at_most_a_mebioctet_of_stack() {
+    for tangle in longest_chains() {
+        let call = move || {
+            let (mut out, mut figures) = (vec![0; 64 * 16], vec![0; 2]);
+            ffi::lookup(&tangle.table, &tangle.names[0], 1_000_000, &mut out, &mut figures)
+        };
+        let thread = thread::Builder::new().stack_size((1 << 20) + THREAD).spawn(call).expect("a thread");
+        let number = thread.join().expect("the call comes back");
+        assert!(number == 0 || number == 6, "{number}");
+    }
+}
+
+// Generated tables.
+
+const GENERATED: usize = 200_000;
+/// Chains that the plain rules count before they give up.
+const COUNTED: usize = 1_000;
+
+/// Small tables full of loops: the addresses by the fixed point, the work by counting, limits and rooms around them,
+/// for every name in the table.
+#[test]
+fn generated_tangles_have_the_addresses_and_the_work_of_the_plain_rules() {
+    let mut sides = Sides::new();
+    let mut random = Random::new(32);
+    let (mut made, mut tangle) = (Name::new(), Tangle::default());
+    let (mut cases, mut calls, mut beyond, mut several, mut repeats) = (0, 0, 0, 0, 0);
+    while cases < GENERATED {
+        make::tangle(&mut random, &mut made, 12, &mut tangle);
+        let Tangle { table, names } = &tangle;
+        let graph = Graph::new(table);
+        for name in names {
+            let units = whole(name).expect("a name");
+            let addresses = graph.addresses(&units);
+            let name = &names::respelt(&mut random, name);
+            match graph.chains(&units, COUNTED) {
+                Some((work, without_repeats)) => {
+                    assert_eq!(addresses, without_repeats, "no address is lost without repeats");
+                    calls += sides.around(table, name, &addresses, work as u32);
+                    several += (addresses.len() > 1) as usize;
+                    repeats += (work > table.len() / RECORD) as usize;
+                }
+                None => {
+                    let limit = random.pick(&[0, COUNTED as u32 / 2, COUNTED as u32]);
+                    assert_eq!(sides.within(table, name, limit, random.below(40)), 6);
+                    // Where the reference can count the work, the addresses are those of the fixed point.
+                    if sides.within(table, name, 10_000, 1_000) == 0 {
+                        assert!(sides.shown().0.iter().eq(&addresses));
+                    }
+                    calls += 2;
+                    beyond += 1;
+                }
+            }
+            cases += 1;
+        }
+    }
+    println!("{cases} names, {calls} calls: {beyond} beyond counting, {several} several addresses, {repeats} loops");
+    assert!(beyond > GENERATED / 100 && several > GENERATED / 6 && repeats > GENERATED / 6);
+}
+
+/// Library, reference and plain rules agree on every octet, and every number comes up: tables damaged and not, names
+/// good and malformed, outputs and figures of any length, any limit.
+#[test]
+fn generated_calls_agree_octet_for_octet() {
+    const CALLS: usize = 150_000;
+    let mut sides = Sides::new();
+    let mut random = Random::new(33);
+    let (mut made, mut tangle) = (Name::new(), Tangle::default());
+    let mut met = [0; 8];
+    let mut settled = 0;
+    for case in 0..CALLS {
+        make::tangle(&mut random, &mut made, 9, &mut tangle);
+        let Tangle { table, names } = &mut tangle;
+        plan::spoil(&mut random, &mut made, table);
+        let mut name = names[random.below(names.len())].clone();
+        match random.below(12) {
+            0 => {
+                names::any(&mut random, &mut made);
+                name.clone_from(&made.octets);
+            }
+            1 | 2 => name = names::respelt(&mut random, &name),
+            3 if random.once_in(4) => name.push(0),
+            _ => {}
+        }
+        let limit = random.pick(&[0, 1, 2, 3, 5, 8, 20, 100, COUNTED as u32, COUNTED as u32]);
+        let out = if random.once_in(12) { random.below(100) } else { 16 * random.pick(&[0, 1, 1, 2, 3, 5, 10, 64]) };
+        let figures = if random.once_in(16) { random.below(5) } else { 2 };
+        let number = sides.number(table, &name, limit, out, figures);
+        met[number as usize] += 1;
+        if let Some(expected) = plain::lookup(table, &name, limit, out, figures, COUNTED) {
+            let shown = (number, sides.out.shown().to_vec(), sides.figures.shown().to_vec());
+            assert_eq!(shown, expected, "case {case}");
+            settled += 1;
+        }
+    }
+    println!("lookup: {met:?}, {settled} judged by the plain rules");
+    assert_eq!(settled, CALLS);
+    for (number, times) in met.iter().enumerate() {
+        assert!(*times > CALLS / 100, "{number} comes up {times} times");
+    }
+}
+
+/// Tables in which chains are up to 1,024 records long.
+#[test]
+fn generated_deep_tables_have_the_addresses_and_the_work_of_the_plain_rules() {
+    let mut sides = Sides::new();
+    let mut random = Random::new(34);
+    let mut tangle = Tangle::default();
+    let (mut deepest, mut counted) = (0, 0);
+    for _ in 0..160 {
+        let records = random.pick(&[3, 10, 40, 100, 300, 700, 1_023, 1_024]);
+        make::deep(&mut random, records, &mut tangle);
+        let graph = Graph::new(&tangle.table);
+        for step in [0, 0, 1, random.below(tangle.names.len())] {
+            let name = &tangle.names[step.min(tangle.names.len() - 1)];
+            let units = whole(name).expect("a name");
+            if let Some((work, without_repeats)) = graph.chains(&units, 20_000) {
+                let addresses = graph.addresses(&units);
+                assert_eq!(addresses, without_repeats);
+                sides.around(&tangle.table, name, &addresses, work as u32);
+                deepest = deepest.max(work);
+                counted += 1;
+            } else {
+                assert_eq!(sides.within(&tangle.table, name, 20_000, 64), 6);
+            }
+        }
+    }
+    println!("{counted} names of deep tables, work up to {deepest}");
+    assert!(deepest >= MOST && counted > 300);
+}
+
+/// Large tables: every name of the realistic one, and a thousand records of few names.
+#[test]
+fn large_tables_agree() {
+    let mut sides = Sides::new();
+    let plan = plan::realistic();
+    let graph = Graph::new(&plan.table);
+    let (mut hosts, mut sites) = (0, 0);
+    for name in plan.hosts.iter().chain(&plan.sites).chain(&plan.carriers).chain(&plan.upstreams) {
+        let (found, work) = sides.found(&plan.table, name);
+        hosts += (found.len() == 6 && work == 1 + 3 + 6 + 6) as usize;
+        sites += (found.len() == 4 && work == 2 + 4 + 4) as usize;
+    }
+    assert!(hosts > 20 && sites > 100);
+    for name in plan.hosts.iter().step_by(9).chain(plan.sites.iter().step_by(50)) {
+        let units = whole(name).expect("a name");
+        let (work, addresses) = graph.chains(&units, 1_000).expect("little work");
+        sides.around(&plan.table, name, &addresses, work as u32);
+    }
+    let mut random = Random::new(35);
+    let (mut made, mut tangle) = (Name::new(), Tangle::default());
+    for _ in 0..300 {
+        make::tangle(&mut random, &mut made, MOST, &mut tangle);
+        for name in &tangle.names {
+            let limit = random.pick(&[0, 10, 1_000, 20_000]);
+            sides.within(&tangle.table, name, limit, random.pick(&[0, 1, 10, 1_000]));
+        }
+    }
+}
+
+/// What the plain rules stand on: the names that a graph lists are those of its records, and encode to them.
+#[test]
+fn the_plain_graph_lists_the_names_of_its_records() {
+    let graph = Graph::new(&examples::section_5_1());
+    let names: Vec<Vec<u8>> = graph.names().iter().map(|units| encode(units)).collect();
+    assert_eq!(names[..2], [name("N.X.EXAMPLE"), name("SUBNET-1.IP6.X.EXAMPLE")]);
+    assert_eq!(names.len(), 11);
+}
+
+// The program.
+
+/// Records that the program reads, its work limit and its room.
+const RECORDS: usize = 120;
+const LIMIT: u32 = 10_000;
+const ROOM: usize = 64;
+
+/// What the program prints for this input (01, Program lookup).
+fn printed(input: &[u8]) -> String {
+    let refused = |number: u32| format!("refused {number}\n");
+    let Some((slot, table)) = input.split_at_checked(256) else { return refused(4) };
+    let (name, fill) = slot[1..].split_at(slot[0] as usize);
+    if fill.iter().any(|octet| *octet != 0) {
+        return refused(4);
+    }
+    if table.len() > RECORDS * RECORD {
+        return refused(1);
+    }
+    let (mut out, mut figures) = ([0; 16 * ROOM], [0; 2]);
+    let number = reference::lookup(table, name, LIMIT, &mut out, &mut figures);
+    if number != 0 {
+        return refused(number);
+    }
+    let mut text = String::new();
+    for octets in out.chunks(16).take(figures[0] as usize) {
+        text.extend(octets.iter().map(|octet| format!("{octet:02x}")));
+        text.push('\n');
+    }
+    text + &format!("done {} {}\n", figures[0], figures[1])
+}
+
+/// Runs the program on this input and compares all that it prints.
+fn run(program: &Path, input: &[u8]) -> String {
+    let mut child =
+        Command::new(program).stdin(Stdio::piped()).stdout(Stdio::piped()).spawn().expect("the program starts");
+    let mut stdin = child.stdin.take().expect("its input");
+    // A program that has seen enough may stop reading.
+    let _ = stdin.write_all(input);
+    drop(stdin);
+    let output = child.wait_with_output().expect("the program ends");
+    let shown = String::from_utf8(output.stdout).expect("its output is text");
+    assert_eq!(shown, printed(input), "an input of {} octets", input.len());
+    shown
+}
+
+fn slot(name: &[u8]) -> Vec<u8> {
+    let mut slot = vec![name.len() as u8];
+    slot.extend(name);
+    slot.resize(256, 0);
+    slot
+}
+
+/// The program where it has been built; `rt ci` builds it.
+fn program() -> Option<&'static Path> {
+    let program = Path::new(concat!(env!("CARGO_MANIFEST_DIR"), "/../target/bin/lookup"));
+    if program.exists() {
+        return Some(program);
+    }
+    println!("the program lookup is not there and is not run");
+    None
+}
+
+#[test]
+fn the_program_prints_what_01_says() {
+    let expected = [
+        (examples::host(), "h.a", "20010db8000000050000000000000007\ndone 1 2\n"),
+        (
+            examples::loop_of_one(),
+            "x.a",
+            "20010db8000000000000000000000000\n20010db8000000000000000000000001\ndone 2 3\n",
+        ),
+        (examples::ignored(), "h.a", "20010db8000000000000000000000000\ndone 1 2\n"),
+        (vec![], "h.a", "done 0 0\n"),
+        (make::one_name(8, 8).table, "one.name", "refused 6\n"),
+        (make::one_name(1, 64).table, "one.name", "refused 7\n"),
+        (make::one_name(0, 64).table[1..].to_vec(), "one.name", "refused 1\n"),
+    ];
+    for (table, name, text) in expected {
+        let input = [slot(&plan::name(name)), table].concat();
+        assert_eq!(printed(&input), text);
+        if let Some(program) = program() {
+            assert_eq!(run(program, &input), text);
+        }
+    }
+}
+
+/// The order of the program's own refusals: too short or badly filled, then too long, then lookup's.
+#[test]
+fn the_program_refuses_in_order() {
+    let good = [slot(&name("h.a")), examples::host()].concat();
+    let mut unfilled = good.clone();
+    unfilled[255] = 1;
+    let full = [slot(&name("x.a")), examples::loop_of_one().repeat(RECORDS / 2)].concat();
+    let mut long_unfilled = [&full[..], &[0]].concat();
+    long_unfilled[200] = 1;
+    let mut empty_name = [slot(&[]), examples::host()].concat();
+    let malformed = [slot(&[3, b'a', 0]), examples::host()].concat();
+    let mut inputs = vec![
+        (vec![], 4),
+        (good[..255].to_vec(), 4),
+        (unfilled, 4),
+        (long_unfilled, 4),
+        ([&full[..], &[0]].concat(), 1),
+        (full.repeat(3), 1),
+        ([&good[..], &[0]].concat(), 1),
+        (empty_name.clone(), 4),
+        (malformed, 4),
+        (full.clone(), 6),
+    ];
+    // An empty or malformed name gives way to what is wrong with the table.
+    empty_name[256 + 3] = 1;
+    inputs.push((empty_name.clone(), 2));
+    empty_name.pop();
+    inputs.push((empty_name, 1));
+    for (input, number) in inputs {
+        assert_eq!(printed(&input), format!("refused {number}\n"));
+        if let Some(program) = program() {
+            run(program, &input);
+        }
+    }
+}
+
+#[test]
+fn the_program_agrees_on_generated_input() {
+    let Some(program) = program() else { return };
+    let mut random = Random::new(36);
+    let (mut made, mut tangle) = (Name::new(), Tangle::default());
+    let (mut done, mut refused) = (0, 0);
+    for case in 0..500 {
+        if case % 8 == 0 {
+            make::deep(&mut random, RECORDS, &mut tangle);
+        } else {
+            make::tangle(&mut random, &mut made, 20, &mut tangle);
+        }
+        let Tangle { table, names } = &mut tangle;
+        plan::spoil(&mut random, &mut made, table);
+        let mut input = slot(&names[random.below(names.len())]);
+        match random.below(16) {
+            0 => {
+                names::any(&mut random, &mut made);
+                input = slot(&made.octets[..made.octets.len().min(255)]);
+            }
+            1 => input[random.below(256)] ^= 1 << random.below(8),
+            2 => input[0] = input[0].wrapping_add(random.pick(&[1, 255])),
+            _ => {}
+        }
+        input.extend_from_slice(table);
+        if random.once_in(40) {
+            input.truncate(random.below(300));
+        }
+        if random.once_in(40) {
+            input.resize(random.pick(&[64_096, 64_097, 70_000, 256 + 121 * RECORD]), 0);
+        }
+        let shown = run(program, &input);
+        done += shown.contains("done") as usize;
+        refused += shown.starts_with("refused") as usize;
+    }
+    println!("the program: {done} done, {refused} refused");
+    assert!(done > 150 && refused > 50 && done + refused == 500);
+}
