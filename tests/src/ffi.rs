@@ -9,10 +9,6 @@ extern "C" {
         figures: *mut u32,
         figures_length: usize,
     ) -> u32;
-}
-
-#[cfg(feature = "a6")]
-extern "C" {
     fn a6plan_read(data: *const u8, data_length: usize, value: *mut u8, value_length: usize) -> u32;
     fn a6plan_write(
         value: *const u8,
@@ -22,10 +18,6 @@ extern "C" {
         figures: *mut u32,
         figures_length: usize,
     ) -> u32;
-}
-
-#[cfg(feature = "plan")]
-extern "C" {
     fn a6plan_check(table: *const u8, table_length: usize) -> u32;
     fn a6plan_owner(
         table: *const u8,
@@ -34,10 +26,6 @@ extern "C" {
         figures: *mut u32,
         figures_length: usize,
     ) -> u32;
-}
-
-#[cfg(feature = "forward")]
-extern "C" {
     fn a6plan_lookup(
         table: *const u8,
         table_length: usize,
@@ -49,10 +37,6 @@ extern "C" {
         figures: *mut u32,
         figures_length: usize,
     ) -> u32;
-}
-
-#[cfg(feature = "reverse")]
-extern "C" {
     fn a6plan_reverse(
         table: *const u8,
         table_length: usize,
@@ -64,10 +48,6 @@ extern "C" {
         figures: *mut u32,
         figures_length: usize,
     ) -> u32;
-}
-
-#[cfg(feature = "collapse")]
-extern "C" {
     fn a6plan_collapse(
         table: *const u8,
         table_length: usize,
@@ -89,14 +69,12 @@ pub fn standard(name: &[u8], out: &mut [u8], figures: &mut [u32]) -> u32 {
 }
 
 /// The value that the A6 data holds.
-#[cfg(feature = "a6")]
 pub fn read(data: &[u8], value: &mut [u8]) -> u32 {
     // SAFETY: each pointer and length come from one live slice, and the written one is lent mutably.
     unsafe { a6plan_read(data.as_ptr(), data.len(), value.as_mut_ptr(), value.len()) }
 }
 
 /// The A6 data of a value in `out`; figures: octets written and 0.
-#[cfg(feature = "a6")]
 pub fn write(value: &[u8], out: &mut [u8], figures: &mut [u32]) -> u32 {
     // SAFETY: each pointer and length come from one live slice, and the written ones are lent mutably.
     unsafe {
@@ -105,21 +83,18 @@ pub fn write(value: &[u8], out: &mut [u8], figures: &mut [u32]) -> u32 {
 }
 
 /// 0 for a table in order, else 1, 2 or 3.
-#[cfg(feature = "plan")]
 pub fn check(table: &[u8]) -> u32 {
     // SAFETY: pointer and length come from one live slice.
     unsafe { a6plan_check(table.as_ptr(), table.len()) }
 }
 
 /// Where the owner of record `index` stands in the table; figures: offset and length.
-#[cfg(feature = "plan")]
 pub fn owner(table: &[u8], index: usize, figures: &mut [u32]) -> u32 {
     // SAFETY: each pointer and length come from one live slice, and the written one is lent mutably.
     unsafe { a6plan_owner(table.as_ptr(), table.len(), index, figures.as_mut_ptr(), figures.len()) }
 }
 
 /// The addresses of `name` in `out` if the work is at most `limit`; figures: their count and the work.
-#[cfg(feature = "forward")]
 pub fn lookup(table: &[u8], name: &[u8], limit: u32, out: &mut [u8], figures: &mut [u32]) -> u32 {
     // SAFETY: each pointer and length come from one live slice, and the written ones are lent mutably.
     unsafe {
@@ -138,7 +113,6 @@ pub fn lookup(table: &[u8], name: &[u8], limit: u32, out: &mut [u8], figures: &m
 }
 
 /// The name that `address` leads to in `out`, by at most `limit` rewrites; figures: its length and the rewrites.
-#[cfg(feature = "reverse")]
 pub fn reverse(table: &[u8], address: &[u8], limit: u8, out: &mut [u8], figures: &mut [u32]) -> u32 {
     // SAFETY: each pointer and length come from one live slice, and the written ones are lent mutably.
     unsafe {
@@ -157,7 +131,6 @@ pub fn reverse(table: &[u8], address: &[u8], limit: u8, out: &mut [u8], figures:
 }
 
 /// The table in which `name` is collapsed in `out`; figures: its records and 0.
-#[cfg(feature = "collapse")]
 pub fn collapse(table: &[u8], name: &[u8], out: &mut [u8], figures: &mut [u32]) -> u32 {
     // SAFETY: each pointer and length come from one live slice, and the written ones are lent mutably.
     unsafe {

@@ -1,6 +1,6 @@
 //! Memory lent to a call, with guard cells on both sides of it.
 
-use std::fmt::Debug;
+use crate::plain::Answer;
 
 /// Guard cells on each side.
 const GUARDS: usize = 32;
@@ -46,7 +46,7 @@ pub struct Pair<T> {
     reference: Lent<T>,
 }
 
-impl<T: Copy + PartialEq + Debug> Pair<T> {
+impl<T: Copy + PartialEq> Pair<T> {
     pub fn library(&mut self, length: usize) -> &mut [T] {
         self.library.lend(length)
     }
@@ -66,14 +66,65 @@ impl<T: Copy + PartialEq + Debug> Pair<T> {
     }
 }
 
-/// Outputs of up to `most` octets.
-pub fn octets(most: usize) -> Pair<u8> {
-    let side = || Lent::new(most, 0xe7, 0x9c);
-    Pair { library: side(), reference: side() }
+impl<T> Pair<T> {
+    fn new(side: impl Fn() -> Lent<T>) -> Pair<T> {
+        Pair { library: side(), reference: side() }
+    }
 }
 
-/// Up to `most` figures.
-pub fn figures(most: usize) -> Pair<u32> {
-    let side = || Lent::new(most, 0xe7e7_e7e7, 0x9c9c_9c9c);
-    Pair { library: side(), reference: side() }
+/// An output and figures, lent to the library and to the reference.
+pub struct Sides {
+    pub out: Pair<u8>,
+    pub figures: Pair<u32>,
+}
+
+impl Sides {
+    /// Outputs of up to `most` octets, and up to four figures.
+    pub fn new(most: usize) -> Sides {
+        Sides {
+            out: Pair::new(|| Lent::new(most, 0xe7, 0x9c)),
+            figures: Pair::new(|| Lent::new(4, 0xe7e7_e7e7, 0x9c9c_9c9c)),
+        }
+    }
+
+    /// The number that the library's call gives with an output and figures of these lengths. It is the number of the
+    /// reference's call; both left the same in every octet of the output and in the figures, zeros alone after a
+    /// refusal, and nothing beside them has changed.
+    pub fn number(
+        &mut self,
+        [out, figures]: [usize; 2],
+        library: impl FnOnce(&mut [u8], &mut [u32]) -> u32,
+        reference: impl FnOnce(&mut [u8], &mut [u32]) -> u32,
+        about: impl Fn() -> String,
+    ) -> u32 {
+        let number = library(self.out.library(out), self.figures.library(figures));
+        let expected = reference(self.out.reference(out), self.figures.reference(figures));
+        assert_eq!(number, expected, "{}, output of {out}, {figures} figures", about());
+        assert!(self.out.agree(), "{}: the output is not the reference's: {:02x?}", about(), self.out.shown());
+        assert!(self.figures.agree(), "{}: the figures are not the reference's: {:?}", about(), self.figures.shown());
+        assert!(number == 0 || self.blank(), "{}: a refusal leaves zeros", about());
+        number
+    }
+
+    /// What the library left is zeros alone.
+    pub fn blank(&self) -> bool {
+        self.out.shown().iter().all(|octet| *octet == 0) && self.figures.shown().iter().all(|figure| *figure == 0)
+    }
+
+    /// The output that the library left, cut after `size` octets; the rest of it is zeros.
+    pub fn written(&self, size: usize) -> &[u8] {
+        let (written, rest) = self.out.shown().split_at(size);
+        assert!(rest.iter().all(|octet| *octet == 0), "zeros after the result");
+        written
+    }
+
+    /// The two figures that the library left.
+    pub fn counted(&self) -> [u32; 2] {
+        self.figures.shown().try_into().expect("two figures")
+    }
+
+    /// All that the library left, with its number.
+    pub fn answer(&self, number: u32) -> Answer {
+        (number, self.out.shown().to_vec(), self.figures.shown().to_vec())
+    }
 }

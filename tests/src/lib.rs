@@ -2,15 +2,16 @@
 //!
 //! The rules are those of the paper "The A6 plan library and its rules", called 01 in the comments. Three answers
 //! stand side by side: `ffi` calls the library; `reference` is an independent Rust version written for speed, which
-//! the benchmarks also use; `plain` spells the rules out slowly (lists of units, one bit at a time) and judges the
-//! reference.
+//! `bench` measures the library against; `plain` spells the rules out slowly (lists of units, one bit at a time) and
+//! judges the reference. `soak` makes random calls of all functions.
 
+pub mod bench;
 pub mod ffi;
 pub mod generate;
 pub mod lent;
+pub mod met;
 pub mod plain;
 pub mod reference;
-#[cfg(feature = "soak")]
 pub mod soak;
 pub mod text;
 pub mod vectors;

@@ -3,7 +3,8 @@
 use a6plan_tests::generate::a6 as make;
 use a6plan_tests::generate::names::{self, Name};
 use a6plan_tests::generate::Random;
-use a6plan_tests::lent::{self, Pair};
+use a6plan_tests::lent;
+use a6plan_tests::met::Met;
 use a6plan_tests::plain::a6 as plain;
 use a6plan_tests::reference::a6 as reference;
 use a6plan_tests::{ffi, text, vectors};
@@ -12,63 +13,57 @@ use std::net::Ipv6Addr;
 /// Octets of a value.
 const VALUE: usize = reference::VALUE;
 
-/// Memory for the library's calls and for the reference's.
+/// Memory for readings, where the value is the output, and for writings.
 struct Sides {
-    value: Pair<u8>,
-    out: Pair<u8>,
-    figures: Pair<u32>,
+    reading: lent::Sides,
+    writing: lent::Sides,
 }
 
 impl Sides {
     fn new() -> Sides {
-        Sides { value: lent::octets(300), out: lent::octets(600), figures: lent::figures(4) }
+        Sides { reading: lent::Sides::new(300), writing: lent::Sides::new(600) }
     }
 
-    /// The library's number for reading into a value of this length. All that it left is as the reference left it.
+    /// The library's number for reading into a value of this length; all that it left is the reference's.
     fn read_into(&mut self, data: &[u8], length: usize) -> u32 {
-        let number = ffi::read(data, self.value.library(length));
-        let expected = reference::read(data, self.value.reference(length));
-        assert_eq!(number, expected, "number for {data:02x?}");
-        assert!(self.value.agree(), "value for {data:02x?}: {:02x?}", self.value.shown());
-        number
+        let library = |value: &mut [u8], _: &mut [u32]| ffi::read(data, value);
+        let reference = |value: &mut [u8], _: &mut [u32]| reference::read(data, value);
+        self.reading.number([length, 0], library, reference, || format!("{data:02x?}"))
     }
 
     fn read(&mut self, data: &[u8]) -> u32 {
         self.read_into(data, VALUE)
     }
 
-    /// The library's number for writing. All that it left is as the reference left it.
+    /// The library's number for writing; all that it left is the reference's.
     fn write_into(&mut self, value: &[u8], out: usize, figures: usize) -> u32 {
-        let number = ffi::write(value, self.out.library(out), self.figures.library(figures));
-        let expected = reference::write(value, self.out.reference(out), self.figures.reference(figures));
-        assert_eq!(number, expected, "number for {value:02x?}, output {out}, figures {figures}");
-        assert!(self.out.agree(), "output for {value:02x?}: {:02x?}", self.out.shown());
-        assert!(self.figures.agree(), "figures for {value:02x?}: {:?}", self.figures.shown());
-        number
+        let library = |out: &mut [u8], figures: &mut [u32]| ffi::write(value, out, figures);
+        let reference = |out: &mut [u8], figures: &mut [u32]| reference::write(value, out, figures);
+        self.writing.number([out, figures], library, reference, || format!("{value:02x?}"))
     }
 
     fn write(&mut self, value: &[u8], out: usize) -> u32 {
         self.write_into(value, out, 2)
     }
 
+    /// The value that the library left.
+    fn value(&self) -> &[u8] {
+        self.reading.out.shown()
+    }
+
     /// The value in good data.
     fn value_of(&mut self, data: &[u8]) -> Vec<u8> {
         assert_eq!(self.read(data), 0, "{data:02x?} is accepted");
-        self.value.shown().to_vec()
+        self.value().to_vec()
     }
 
     /// The data of a good value, written with room to spare.
     fn data_of(&mut self, value: &[u8]) -> Vec<u8> {
         assert_eq!(self.write(value, 300), 0, "{value:02x?} is accepted");
-        let (data, rest) = self.out.shown().split_at(self.figures.shown()[0] as usize);
-        assert!(rest.iter().all(|octet| *octet == 0), "zeros after the data of {value:02x?}");
-        assert_eq!(self.figures.shown()[1], 0);
-        data.to_vec()
+        let [length, zero] = self.writing.counted();
+        assert_eq!(zero, 0);
+        self.writing.written(length as usize).to_vec()
     }
-}
-
-fn all_zero(octets: &[u8]) -> bool {
-    octets.iter().all(|octet| *octet == 0)
 }
 
 /// A name of 255 octets that begins with bit labels and ends with a long label.
@@ -123,7 +118,7 @@ fn rows_of_a6_wire_read_earn_their_numbers() {
         assert_eq!(sides.read(&vectors::octets(wire)), number, "{wire}: {verdict}");
         used[number as usize] += 1;
         if number == 0 {
-            let value = sides.value.shown().to_vec();
+            let value = sides.value().to_vec();
             assert_eq!(value, value_from_text(text), "{text}");
             assert_eq!(sides.data_of(&value), vectors::octets(standard), "{text}");
         }
@@ -187,7 +182,6 @@ fn every_prefix_length_with_every_truncation_and_one_octet_over() {
                     _ => 13,
                 };
                 assert_eq!(sides.read(&over[..cut]), expected, "{cut} octets, prefix length {length}");
-                assert!(expected == 0 || all_zero(sides.value.shown()));
             }
         }
     }
@@ -261,7 +255,6 @@ fn a_value_slice_not_of_273_octets_is_refused_before_everything() {
     for length in [0, 1, 16, 17, 18, 255, 256, 272, 274, 300] {
         for data in [&[][..], &[129], &[0; 17], &[0; 18], &[128, 0], &[128, 66]] {
             assert_eq!(sides.read_into(data, length), 5, "{length} octets of value for {data:02x?}");
-            assert!(all_zero(sides.value.shown()));
         }
     }
 }
@@ -293,12 +286,10 @@ fn every_prefix_length_is_written_with_room_exact_and_short() {
             assert_eq!(sides.value_of(&data), value, "prefix length {length}");
             for out in 0..data.len() {
                 assert_eq!(sides.write(&value, out), 7, "output of {out}, prefix length {length}");
-                assert!(all_zero(sides.out.shown()));
-                assert_eq!(sides.figures.shown(), [0, 0]);
             }
             for out in [data.len(), data.len() + 1, 300, 600] {
                 assert_eq!(sides.write(&value, out), 0, "output of {out}, prefix length {length}");
-                assert_eq!(&sides.out.shown()[..data.len()], data);
+                assert_eq!(sides.writing.written(data.len()), data);
             }
         }
     }
@@ -404,8 +395,6 @@ fn a_value_or_figures_of_another_length_are_refused_before_everything() {
                 }
                 for out in [0, 1, 12, 600] {
                     assert_eq!(sides.write_into(&long[..length], out, figures), 5, "{length} {figures} {out}");
-                    assert!(all_zero(sides.out.shown()));
-                    assert!(sides.figures.shown().iter().all(|figure| *figure == 0));
                 }
             }
         }
@@ -422,21 +411,16 @@ fn generated_data_are_read_alike() {
     let mut sides = Sides::new();
     let mut random = Random::new(11);
     let (mut name, mut data) = (Name::new(), Vec::new());
-    let mut met = [0; 14];
+    let mut met = Met::default();
     for case in 0..GENERATED {
         make::any_data(&mut random, &mut name, &mut data);
         let number = sides.read(&data);
-        met[number as usize] += 1;
+        met.count(number);
         if case % 2 == 0 {
-            let (expected, value) = plain::read_answer(&data, VALUE);
-            assert_eq!(number, expected, "{data:02x?}");
-            assert_eq!(sides.value.shown(), value, "{data:02x?}");
+            assert_eq!((number, sides.value().to_vec()), plain::read_answer(&data, VALUE), "{data:02x?}");
         }
     }
-    println!("read: {met:?}");
-    for number in [0, 10, 11, 12, 13] {
-        assert!(met[number] > GENERATED / 25, "{number} comes up {} times", met[number]);
-    }
+    met.are("read", &[0, 10, 11, 12, 13], GENERATED / 25);
 }
 
 /// As above, with outputs exact, one short, longer, empty and of any length.
@@ -446,24 +430,18 @@ fn generated_values_are_written_alike() {
     let mut random = Random::new(12);
     let mut name = Name::new();
     let mut value = [0; VALUE];
-    let mut met = [0; 14];
+    let mut met = Met::default();
     for case in 0..GENERATED {
         let size = make::any_value(&mut random, &mut name, &mut value);
         let out = random.pick(&[size, size, size - 1, size + 1, 300, 0]);
         let out = if random.once_in(8) { random.below(400) } else { out };
         let number = sides.write(&value, out);
-        met[number as usize] += 1;
+        met.count(number);
         if case % 2 == 0 {
-            let (expected, data, figures) = plain::write_answer(&value, out, 2);
-            assert_eq!(number, expected, "{value:02x?}");
-            assert_eq!(sides.out.shown(), data, "{value:02x?}");
-            assert_eq!(sides.figures.shown(), figures, "{value:02x?}");
+            assert_eq!(sides.writing.answer(number), plain::write_answer(&value, out, 2), "{value:02x?}");
         }
     }
-    println!("write: {met:?}");
-    for number in [0, 7, 10, 12] {
-        assert!(met[number] > GENERATED / 25, "{number} comes up {} times", met[number]);
-    }
+    met.are("write", &[0, 7, 10, 12], GENERATED / 25);
 }
 
 /// 01, A6 data: data read and written back are their standard form.

@@ -5,7 +5,8 @@ use a6plan_tests::generate::forward::{self as make, Tangle};
 use a6plan_tests::generate::names::{self, Name};
 use a6plan_tests::generate::plan::{self, a6_record, dname_record, name, realistic};
 use a6plan_tests::generate::Random;
-use a6plan_tests::lent::{self, Pair};
+use a6plan_tests::lent;
+use a6plan_tests::met::Met;
 use a6plan_tests::plain::collapse::{self as plain, Plan};
 use a6plan_tests::plain::forward::Graph;
 use a6plan_tests::plain::names::{whole, Unit};
@@ -15,31 +16,19 @@ use a6plan_tests::reference::plan::{MOST, RECORD};
 use a6plan_tests::{ffi, text};
 use std::collections::BTreeSet;
 
-/// Memory for the library's call and for the reference's.
-struct Sides {
-    out: Pair<u8>,
-    figures: Pair<u32>,
-}
+struct Sides(lent::Sides);
 
 impl Sides {
     fn new() -> Sides {
-        Sides { out: lent::octets(1_200 * RECORD), figures: lent::figures(4) }
+        Sides(lent::Sides::new(1_200 * RECORD))
     }
 
-    /// The library's number. Its answer, every octet of the output and the figures are the reference's, and nothing
-    /// beside them has changed.
+    /// The library's number; all that it left is the reference's.
     fn number(&mut self, table: &[u8], name: &[u8], out: usize, figures: usize) -> u32 {
-        let number = ffi::collapse(table, name, self.out.library(out), self.figures.library(figures));
-        let expected = reference::collapse(table, name, self.out.reference(out), self.figures.reference(figures));
-        let records = table.len() / RECORD;
-        assert_eq!(number, expected, "{name:02x?} in {records} records, output {out}");
-        assert!(self.out.agree(), "{name:02x?} in {records} records: the output differs");
-        assert!(self.figures.agree(), "{name:02x?} in {records} records: figures {:?}", self.figures.shown());
-        if number != 0 {
-            assert!(self.out.shown().iter().all(|octet| *octet == 0), "a refusal leaves zeros");
-            assert!(self.figures.shown().iter().all(|figure| *figure == 0), "a refusal leaves zeros");
-        }
-        number
+        let library = |out: &mut [u8], figures: &mut [u32]| ffi::collapse(table, name, out, figures);
+        let reference = |out: &mut [u8], figures: &mut [u32]| reference::collapse(table, name, out, figures);
+        let about = || format!("{name:02x?} in {} records", table.len() / RECORD);
+        self.0.number([out, figures], library, reference, about)
     }
 
     /// The number with room for so many records and two figures.
@@ -49,11 +38,9 @@ impl Sides {
 
     /// The table that the library left.
     fn shown(&self) -> &[u8] {
-        let [records, zero] = self.figures.shown() else { panic!("two figures") };
-        let (table, rest) = self.out.shown().split_at(*records as usize * RECORD);
-        assert!(rest.iter().all(|octet| *octet == 0), "zeros after the records");
-        assert_eq!(*zero, 0);
-        table
+        let [records, zero] = self.0.counted();
+        assert_eq!(zero, 0);
+        self.0.written(records as usize * RECORD)
     }
 
     /// The table in which the name is collapsed.
@@ -317,20 +304,9 @@ fn results_of_1024_records_are_taken_and_of_1025_refused() {
 #[test]
 fn the_first_number_that_is_earned_is_given() {
     let mut sides = Sides::new();
-    let good = examples::ignored();
-    let shared = dname_record(&name("s.a"), &name("t.a"));
-    let mut bad = good.clone();
-    bad[3] = 1;
-    let tables = [
-        (good.clone(), 0),
-        (good[1..].to_vec(), 1),
-        (good.repeat(257), 1),
-        (bad, 2),
-        ([&good[..], &shared, &shared].concat(), 3),
-    ];
     let names =
         [(name("p.a"), 0, 9), (name("h.a"), 0, 0), (vec![], 4, 0), (vec![1, b'h', 0, 0], 4, 0), (vec![0xc0, 0], 4, 0)];
-    for (table, of_table) in &tables {
+    for (table, of_table) in &plan::earning(&examples::ignored()) {
         for (name, of_name, of_lengths) in &names {
             for out in [0, 1, RECORD - 1, RECORD, 3 * RECORD, 4 * RECORD, 4 * RECORD + 1, 5 * RECORD] {
                 for figures in [2, 0, 1, 3, 4] {
@@ -356,13 +332,13 @@ fn generated_collapses_agree_octet_for_octet() {
     let mut sides = Sides::new();
     let mut random = Random::new(53);
     let (mut made, mut tangle) = (Name::new(), Tangle::default());
-    let mut met = [0; 10];
+    let mut met = Met::default();
     let (mut folded, mut cases) = (0, 0);
     while cases < GENERATED {
         if random.once_in(3) {
-            make::layers(&mut random, &mut made, 9, &mut tangle);
-        } else {
             make::tangle(&mut random, &mut made, 9, &mut tangle);
+        } else {
+            make::layers(&mut random, &mut made, 9, &mut tangle);
         }
         let Tangle { table, names } = &mut tangle;
         plan::spoil(&mut random, &mut made, table);
@@ -391,17 +367,14 @@ fn generated_collapses_agree_octet_for_octet() {
             let out = if random.once_in(16) { random.below(3 * RECORD) } else { room * RECORD };
             let figures = if random.once_in(20) { random.below(5) } else { 2 };
             let number = sides.number(table, &name, out, figures);
-            met[number as usize] += 1;
-            let shown = (number, sides.out.shown().to_vec(), sides.figures.shown().to_vec());
-            assert_eq!(shown, plain::collapse(table, &name, out, figures), "case {cases}");
-            folded += (number == 0 && shown.1 != *table) as usize;
+            met.count(number);
+            assert_eq!(sides.0.answer(number), plain::collapse(table, &name, out, figures), "case {cases}");
+            folded += (number == 0 && sides.shown() != table) as usize;
             cases += 1;
         }
     }
-    println!("collapse: {met:?}, {folded} changed their tables");
-    for number in [0, 1, 2, 3, 4, 5, 7, 9] {
-        assert!(met[number] > GENERATED / 100, "{number} comes up {} times", met[number]);
-    }
+    met.are("collapse", &[0, 1, 2, 3, 4, 5, 7, 9], GENERATED / 100);
+    println!("{folded} changed their tables");
     assert!(folded > GENERATED / 5);
 }
 
@@ -431,7 +404,7 @@ fn lists(seed: u64) {
     let mut sides = Sides::new();
     let mut random = Random::new(seed);
     let (mut made, mut tangle) = (Name::new(), Tangle::default());
-    let mut met = [0; 10];
+    let mut met = Met::default();
     let (mut changed, mut needed, mut lost) = (0, 0, 0);
     for list in 0..LISTS {
         if random.once_in(4) {
@@ -460,7 +433,7 @@ fn lists(seed: u64) {
                 _ => 40 * RECORD,
             };
             let number = sides.number(&table, &given, out, 2);
-            met[number as usize] += 1;
+            met.count(number);
             let Some(units) = whole(&given) else {
                 assert_eq!(number, 4, "list {list}");
                 continue;
@@ -489,10 +462,10 @@ fn lists(seed: u64) {
             }
         }
     }
-    println!("lists: {met:?}, {changed} changed the table, {needed} times 9 was needed, {lost} names lost all records");
+    met.are("lists", &[0, 4, 5, 7, 9], LISTS / 50);
+    println!("{changed} changed the table, {needed} times 9 was needed, {lost} names lost all records");
     assert!(changed > LISTS / 2 && lost > LISTS / 100);
-    assert!(met[4] > LISTS / 20 && met[5] > LISTS / 20 && met[7] > LISTS / 50);
-    assert!(needed * 5 > met[9], "9 was needed {needed} of {} times", met[9]);
+    assert!(needed * 5 > met.times(9), "9 was needed {needed} times");
 }
 
 /// Large tables: every name of the realistic one collapsed, and a list of collapses that ends with none unfinished.
@@ -520,15 +493,14 @@ fn large_tables_agree() {
     assert_eq!(address_sets(&table, &names), first);
     let mut random = Random::new(56);
     let (mut made, mut tangle) = (Name::new(), Tangle::default());
-    let mut met = [0; 10];
+    let mut met = Met::default();
     for _ in 0..400 {
         let most = random.pick(&[30, 60, 200, MOST]);
         make::tangle(&mut random, &mut made, most, &mut tangle);
         for name in &tangle.names {
             let room = random.pick(&[0, 100, MOST, MOST + 100]);
-            met[sides.within(&tangle.table, name, room) as usize] += 1;
+            met.count(sides.within(&tangle.table, name, room));
         }
     }
-    println!("collapse of large tables: {met:?}");
-    assert!([0, 7, 9].iter().all(|number| met[*number] > 20));
+    met.are("collapse of large tables", &[0, 7, 9], 20);
 }

@@ -5,7 +5,8 @@ use a6plan_tests::generate::forward::{self as make, Tangle};
 use a6plan_tests::generate::names::{self, Name};
 use a6plan_tests::generate::plan::{self, a6_record, dname_record, name};
 use a6plan_tests::generate::Random;
-use a6plan_tests::lent::{self, Pair};
+use a6plan_tests::lent;
+use a6plan_tests::met::Met;
 use a6plan_tests::plain::forward::{self as plain, Graph};
 use a6plan_tests::plain::names::{encode, whole};
 use a6plan_tests::reference::forward as reference;
@@ -17,31 +18,19 @@ use std::path::Path;
 use std::process::{Command, Stdio};
 use std::thread;
 
-/// Memory for the library's call and for the reference's.
-struct Sides {
-    out: Pair<u8>,
-    figures: Pair<u32>,
-}
+struct Sides(lent::Sides);
 
 impl Sides {
     fn new() -> Sides {
-        Sides { out: lent::octets(16 * 4096), figures: lent::figures(4) }
+        Sides(lent::Sides::new(16 * 4096))
     }
 
-    /// The library's number. Its answer, every octet of the output and the figures are the reference's, and nothing
-    /// beside them has changed.
+    /// The library's number; all that it left is the reference's.
     fn number(&mut self, table: &[u8], name: &[u8], limit: u32, out: usize, figures: usize) -> u32 {
-        let number = ffi::lookup(table, name, limit, self.out.library(out), self.figures.library(figures));
-        let expected = reference::lookup(table, name, limit, self.out.reference(out), self.figures.reference(figures));
-        let records = table.len() / RECORD;
-        assert_eq!(number, expected, "{name:02x?} in {records} records, limit {limit}, output {out}");
-        assert!(self.out.agree(), "{name:02x?} in {records} records: output {:02x?}", self.out.shown());
-        assert!(self.figures.agree(), "{name:02x?} in {records} records: figures {:?}", self.figures.shown());
-        if number != 0 {
-            assert!(self.out.shown().iter().all(|octet| *octet == 0), "a refusal leaves zeros");
-            assert!(self.figures.shown().iter().all(|figure| *figure == 0), "a refusal leaves zeros");
-        }
-        number
+        let library = |out: &mut [u8], figures: &mut [u32]| ffi::lookup(table, name, limit, out, figures);
+        let reference = |out: &mut [u8], figures: &mut [u32]| reference::lookup(table, name, limit, out, figures);
+        let about = || format!("{name:02x?} in {} records, limit {limit}", table.len() / RECORD);
+        self.0.number([out, figures], library, reference, about)
     }
 
     /// The number with whole addresses as room and two figures.
@@ -57,13 +46,11 @@ impl Sides {
 
     /// The addresses and the work that the library left.
     fn shown(&self) -> (Vec<u128>, u32) {
-        let [count, work] = self.figures.shown() else { panic!("two figures") };
-        let (addresses, _) = self.out.shown().as_chunks();
-        let (addresses, rest) = addresses.split_at(*count as usize);
-        assert!(rest.iter().flatten().all(|octet| *octet == 0), "zeros after the addresses");
+        let [count, work] = self.0.counted();
+        let (addresses, _) = self.0.written(16 * count as usize).as_chunks();
         let addresses: Vec<u128> = addresses.iter().map(|octets| u128::from_be_bytes(*octets)).collect();
         assert!(addresses.is_sorted_by(|one, other| one < other), "each address once, in rising order");
-        (addresses, *work)
+        (addresses, work)
     }
 
     /// The library's answers are those of the plain rules, which say the addresses and the work, with limits and rooms
@@ -175,18 +162,8 @@ fn the_glue_of_section_5_1_2_gives_the_same_addresses_in_each_option() {
 #[test]
 fn the_first_number_that_is_earned_is_given() {
     let mut sides = Sides::new();
-    let good = examples::host();
-    let shared = dname_record(&name("s.a"), &name("t.a"));
-    let mut bad = good.clone();
-    bad[3] = 1;
-    let tables = [
-        (good.clone(), 0),
-        (vec![], 0),
-        (good[..good.len() - 1].to_vec(), 1),
-        (good.repeat(513), 1),
-        (bad, 2),
-        ([&good[..], &shared, &shared].concat(), 3),
-    ];
+    let mut tables = plan::earning(&examples::host());
+    tables.push((vec![], 0));
     let names =
         [(name("h.a"), 0), (vec![], 4), (vec![1, b'h', 0, 0], 4), (vec![0xc0, 0], 4), (vec![65, 1, 0x40, 0], 4)];
     for (table, of_table) in &tables {
@@ -460,8 +437,7 @@ fn generated_calls_agree_octet_for_octet() {
     let mut sides = Sides::new();
     let mut random = Random::new(33);
     let (mut made, mut tangle) = (Name::new(), Tangle::default());
-    let mut met = [0; 8];
-    let mut settled = 0;
+    let mut met = Met::default();
     for case in 0..CALLS {
         make::tangle(&mut random, &mut made, 9, &mut tangle);
         let Tangle { table, names } = &mut tangle;
@@ -480,18 +456,10 @@ fn generated_calls_agree_octet_for_octet() {
         let out = if random.once_in(12) { random.below(100) } else { 16 * random.pick(&[0, 1, 1, 2, 3, 5, 10, 64]) };
         let figures = if random.once_in(16) { random.below(5) } else { 2 };
         let number = sides.number(table, &name, limit, out, figures);
-        met[number as usize] += 1;
-        if let Some(expected) = plain::lookup(table, &name, limit, out, figures, COUNTED) {
-            let shown = (number, sides.out.shown().to_vec(), sides.figures.shown().to_vec());
-            assert_eq!(shown, expected, "case {case}");
-            settled += 1;
-        }
+        met.count(number);
+        assert_eq!(sides.0.answer(number), plain::lookup(table, &name, limit, out, figures), "case {case}");
     }
-    println!("lookup: {met:?}, {settled} judged by the plain rules");
-    assert_eq!(settled, CALLS);
-    for (number, times) in met.iter().enumerate() {
-        assert!(*times > CALLS / 100, "{number} comes up {times} times");
-    }
+    met.are("lookup", &[0, 1, 2, 3, 4, 5, 6, 7], CALLS / 100);
 }
 
 /// Tables in which chains are up to 1,024 records long.

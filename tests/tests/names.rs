@@ -2,31 +2,23 @@
 
 use a6plan_tests::generate::names::{self as make, Name};
 use a6plan_tests::generate::Random;
-use a6plan_tests::lent::{self, Pair};
+use a6plan_tests::lent;
 use a6plan_tests::plain::names::{self as plain, Why};
 use a6plan_tests::reference::names as reference;
 use a6plan_tests::{ffi, vectors};
 
-/// Memory for the library's call and for the reference's.
-struct Sides {
-    out: Pair<u8>,
-    figures: Pair<u32>,
-}
+struct Sides(lent::Sides);
 
 impl Sides {
     fn new() -> Sides {
-        Sides { out: lent::octets(300), figures: lent::figures(4) }
+        Sides(lent::Sides::new(300))
     }
 
-    /// The library's number. Its answer, every octet of the output and both figures are the reference's, and nothing
-    /// beside them has changed.
+    /// The library's number; all that it left is the reference's.
     fn number(&mut self, name: &[u8], out: usize, figures: usize) -> u32 {
-        let number = ffi::standard(name, self.out.library(out), self.figures.library(figures));
-        let expected = reference::standard(name, self.out.reference(out), self.figures.reference(figures));
-        assert_eq!(number, expected, "number for {name:02x?}, output {out}, figures {figures}");
-        assert!(self.out.agree(), "output for {name:02x?}: {:02x?}", self.out.shown());
-        assert!(self.figures.agree(), "figures for {name:02x?}: {:?}", self.figures.shown());
-        number
+        let library = |out: &mut [u8], figures: &mut [u32]| ffi::standard(name, out, figures);
+        let reference = |out: &mut [u8], figures: &mut [u32]| reference::standard(name, out, figures);
+        self.0.number([out, figures], library, reference, || format!("{name:02x?}"))
     }
 
     /// As `number`, with an output of 255 octets and two figures.
@@ -37,10 +29,9 @@ impl Sides {
     /// The standard form that the library gives; the name must be accepted.
     fn form(&mut self, name: &[u8]) -> Vec<u8> {
         assert_eq!(self.usual(name), 0, "{name:02x?} is accepted");
-        let (form, rest) = self.out.shown().split_at(self.figures.shown()[0] as usize);
-        assert!(rest.iter().all(|octet| *octet == 0), "zeros after the form of {name:02x?}");
-        assert_eq!(self.figures.shown()[1], 0);
-        form.to_vec()
+        let [length, zero] = self.0.counted();
+        assert_eq!(zero, 0);
+        self.0.written(length as usize).to_vec()
     }
 }
 
@@ -335,8 +326,6 @@ fn an_output_not_of_255_octets_is_refused_after_a_bad_name() {
         for name in NAMES {
             let expected = if reference::scan(name).number == 0 { 5 } else { 4 };
             assert_eq!(sides.number(name, out, 2), expected, "output of {out} for {name:02x?}");
-            assert!(sides.out.shown().iter().all(|octet| *octet == 0));
-            assert_eq!(sides.figures.shown(), [0, 0]);
         }
     }
 }
@@ -356,10 +345,6 @@ fn figures_not_of_two_are_refused_where_an_output_would_be() {
                     0
                 };
                 assert_eq!(sides.number(name, out, figures), expected, "{figures} figures, output of {out}");
-                if expected != 0 {
-                    assert!(sides.out.shown().iter().all(|octet| *octet == 0));
-                    assert!(sides.figures.shown().iter().all(|figure| *figure == 0));
-                }
             }
         }
     }
@@ -382,14 +367,11 @@ fn generated_names_agree_octet_for_octet() {
         make::any(&mut random, &mut name);
         let octets = &name.octets[..];
         let number = sides.usual(octets);
-        let (expected, out, figures) = plain::standard(octets, 255, 2);
-        assert_eq!(number, expected, "{octets:02x?}");
-        assert_eq!(sides.out.shown(), out, "{octets:02x?}");
-        assert_eq!(sides.figures.shown(), figures, "{octets:02x?}");
+        assert_eq!(sides.0.answer(number), plain::standard(octets, 255, 2), "{octets:02x?}");
         match plain::read(octets) {
             Err(why) => refused[why as usize] += 1,
             Ok((_, used)) if used < octets.len() => left_over += 1,
-            Ok((_, used)) if figures[0] as usize == used => standard += 1,
+            Ok((_, used)) if sides.0.counted()[0] as usize == used => standard += 1,
             Ok(_) => merged += 1,
         }
     }

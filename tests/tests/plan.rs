@@ -4,7 +4,8 @@ use a6plan_tests::ffi;
 use a6plan_tests::generate::names::Name;
 use a6plan_tests::generate::plan::{self as make, a6_record, dname_record, name, record, A6, DNAME, OWNER, TARGET};
 use a6plan_tests::generate::Random;
-use a6plan_tests::lent::{self, Pair};
+use a6plan_tests::lent;
+use a6plan_tests::met::Met;
 use a6plan_tests::plain::plan::{self as plain, Field};
 use a6plan_tests::reference::plan::{self as reference, MOST, RECORD};
 
@@ -15,23 +16,20 @@ fn check(table: &[u8]) -> u32 {
     number
 }
 
-/// Memory for the library's figures and for the reference's.
-struct Sides {
-    figures: Pair<u32>,
-}
+struct Sides(lent::Sides);
 
 impl Sides {
     fn new() -> Sides {
-        Sides { figures: lent::figures(4) }
+        Sides(lent::Sides::new(0))
     }
 
     /// The library's number and figures, which are the reference's.
     fn owner(&mut self, table: &[u8], index: usize, figures: usize) -> (u32, Vec<u32>) {
-        let number = ffi::owner(table, index, self.figures.library(figures));
-        let expected = reference::owner(table, index, self.figures.reference(figures));
-        assert_eq!(number, expected, "index {index}, figures {figures}, a table of {} octets", table.len());
-        assert!(self.figures.agree(), "index {index}: {:?}", self.figures.shown());
-        (number, self.figures.shown().to_vec())
+        let library = |_: &mut [u8], figures: &mut [u32]| ffi::owner(table, index, figures);
+        let reference = |_: &mut [u8], figures: &mut [u32]| reference::owner(table, index, figures);
+        let about = || format!("index {index}, a table of {} octets", table.len());
+        let number = self.0.number([0, figures], library, reference, about);
+        (number, self.0.figures.shown().to_vec())
     }
 
     /// The part of the table that the library shows; None for the empty one.
@@ -520,12 +518,12 @@ fn generated_tables_are_judged_alike() {
     let mut sides = Sides::new();
     let mut random = Random::new(21);
     let (mut made, mut table) = (Name::new(), Vec::new());
-    let mut met = [0; 4];
+    let mut met = Met::default();
     let mut fields = [0; 6];
     for case in 0..GENERATED {
         make::any_table(&mut random, &mut made, &mut table);
         let number = check(&table);
-        met[number as usize] += 1;
+        met.count(number);
         assert_eq!(number, plain::check(&table), "case {case}");
         if number == 2 {
             let fault = table.chunks(RECORD).find_map(plain::fault).expect("some field is at fault");
@@ -540,10 +538,8 @@ fn generated_tables_are_judged_alike() {
             }
         }
     }
-    println!("check: {met:?}, fields at fault: {fields:?}");
-    for (number, times) in met.iter().enumerate() {
-        assert!(*times > GENERATED / 50, "{number} comes up {times} times");
-    }
+    met.are("check", &[0, 1, 2, 3], GENERATED / 50);
+    println!("fields at fault: {fields:?}");
     for (field, times) in fields.iter().enumerate() {
         assert!(*times > GENERATED / 100, "field {field} is at fault {times} times");
     }
@@ -554,7 +550,7 @@ fn generated_tables_are_judged_alike() {
 fn generated_large_tables_are_judged_alike() {
     let mut random = Random::new(22);
     let (mut made, mut table) = (Name::new(), Vec::new());
-    let mut met = [0; 4];
+    let mut met = Met::default();
     for _ in 0..300 {
         let records = random.pick(&[50, 200, 600, 1_023, 1_024, 1_025]);
         if random.once_in(2) {
@@ -572,10 +568,9 @@ fn generated_large_tables_are_judged_alike() {
         }
         let number = check(&table);
         assert_eq!(number, plain::check(&table));
-        met[number as usize] += 1;
+        met.count(number);
     }
-    println!("check of large tables: {met:?}");
-    assert!(met.iter().all(|times| *times > 5), "every answer comes up: {met:?}");
+    met.are("check of large tables", &[0, 1, 2, 3], 5);
 }
 
 /// What the benchmarks stand on: the numbers of records that the full realistic table promises.

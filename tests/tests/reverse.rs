@@ -5,39 +5,27 @@ use a6plan_tests::generate::names::{self, Name};
 use a6plan_tests::generate::plan::{self, a6_record, dname_record, name, realistic};
 use a6plan_tests::generate::reverse::{self as make, Walk};
 use a6plan_tests::generate::Random;
-use a6plan_tests::lent::{self, Pair};
+use a6plan_tests::lent;
+use a6plan_tests::met::Met;
 use a6plan_tests::plain::names::{encode, whole, Unit};
 use a6plan_tests::plain::reverse as plain;
 use a6plan_tests::reference::plan::{MOST, RECORD};
 use a6plan_tests::reference::reverse as reference;
 use a6plan_tests::{ffi, text, vectors};
 
-/// Memory for the library's call and for the reference's.
-struct Sides {
-    out: Pair<u8>,
-    figures: Pair<u32>,
-}
+struct Sides(lent::Sides);
 
 impl Sides {
     fn new() -> Sides {
-        Sides { out: lent::octets(600), figures: lent::figures(4) }
+        Sides(lent::Sides::new(600))
     }
 
-    /// The library's number. Its answer, every octet of the output and the figures are the reference's, and nothing
-    /// beside them has changed.
+    /// The library's number; all that it left is the reference's.
     fn number(&mut self, table: &[u8], address: &[u8], limit: u8, out: usize, figures: usize) -> u32 {
-        let number = ffi::reverse(table, address, limit, self.out.library(out), self.figures.library(figures));
-        let expected =
-            reference::lookup(table, address, limit, self.out.reference(out), self.figures.reference(figures));
-        let records = table.len() / RECORD;
-        assert_eq!(number, expected, "{address:02x?} in {records} records, limit {limit}, output {out}");
-        assert!(self.out.agree(), "{address:02x?} in {records} records: output {:02x?}", self.out.shown());
-        assert!(self.figures.agree(), "{address:02x?} in {records} records: figures {:?}", self.figures.shown());
-        if number != 0 {
-            assert!(self.out.shown().iter().all(|octet| *octet == 0), "a refusal leaves zeros");
-            assert!(self.figures.shown().iter().all(|figure| *figure == 0), "a refusal leaves zeros");
-        }
-        number
+        let library = |out: &mut [u8], figures: &mut [u32]| ffi::reverse(table, address, limit, out, figures);
+        let reference = |out: &mut [u8], figures: &mut [u32]| reference::lookup(table, address, limit, out, figures);
+        let about = || format!("{address:02x?} in {} records, limit {limit}", table.len() / RECORD);
+        self.0.number([out, figures], library, reference, about)
     }
 
     /// The number with an output of 255 octets and two figures.
@@ -47,10 +35,8 @@ impl Sides {
 
     /// The name and the rewrites that the library left.
     fn shown(&self) -> (Vec<u8>, u32) {
-        let [length, rewrites] = self.figures.shown() else { panic!("two figures") };
-        let (name, rest) = self.out.shown().split_at(*length as usize);
-        assert!(rest.iter().all(|octet| *octet == 0), "zeros after the name");
-        (name.to_vec(), *rewrites)
+        let [length, rewrites] = self.0.counted();
+        (self.0.written(length as usize).to_vec(), rewrites)
     }
 
     /// The end of a walk that is accepted, with the limit that it needs, and refused with one less.
@@ -413,9 +399,7 @@ fn the_owner_with_most_units_is_used() {
         let mut records: Vec<[u8; RECORD]> =
             (1..=most).map(|units| dname_record(&owner(units), &target(units))).collect();
         records.push(dname_record(&owner(130), &target(130)));
-        for at in (1..records.len()).rev() {
-            records.swap(at, random.below(at + 1));
-        }
+        random.shuffle(&mut records);
         let mut kept = encode(&plain::start(&ADDRESS)[..130 - most]);
         kept.pop();
         let expected = [kept, target(most)].concat();
@@ -566,17 +550,7 @@ fn a_rewrite_that_is_too_large_is_6_while_none_is_left() {
 #[test]
 fn the_first_number_that_is_earned_is_given() {
     let mut sides = Sides::new();
-    let good = section_5_2().concat();
-    let mut bad = good.clone();
-    bad[3] = 1;
-    let tables = [
-        (good.clone(), 0),
-        (good[1..].to_vec(), 1),
-        (good.repeat(100), 1),
-        (bad, 2),
-        ([&good[..], &good[..RECORD]].concat(), 3),
-    ];
-    for (table, of_table) in &tables {
+    for (table, of_table) in &plan::earning(&section_5_2().concat()) {
         for length in [16, 0, 1, 15, 17, 32] {
             for out in [255, 0, 254, 256, 600] {
                 for figures in [2, 0, 1, 3, 4] {
@@ -616,7 +590,7 @@ fn generated(seed: u64) {
     let mut sides = Sides::new();
     let mut random = Random::new(seed);
     let (mut made, mut walk) = (Name::new(), Walk::default());
-    let mut met = [0; 9];
+    let mut met = Met::default();
     let mut rewrites = [0; 256];
     let mut cases = 0;
     while cases < GENERATED {
@@ -633,13 +607,11 @@ fn generated(seed: u64) {
         let figures = if random.once_in(24) { random.below(5) } else { 2 };
         while let Some(limit) = limits.pop() {
             let number = sides.number(table, address, limit, out, figures);
-            let expected = plain::lookup(table, address, limit, out, figures);
-            let shown = (number, sides.out.shown().to_vec(), sides.figures.shown().to_vec());
-            assert_eq!(shown, expected, "case {cases}");
-            met[number as usize] += 1;
+            assert_eq!(sides.0.answer(number), plain::lookup(table, address, limit, out, figures), "case {cases}");
+            met.count(number);
             cases += 1;
             if number == 0 && limits.is_empty() {
-                let needed = sides.figures.shown()[1];
+                let [_, needed] = sides.0.counted();
                 rewrites[needed as usize] += 1;
                 if needed > 0 && limit as u32 != needed - 1 {
                     assert_eq!(sides.number(table, address, needed as u8 - 1, out, figures), 6);
@@ -649,10 +621,8 @@ fn generated(seed: u64) {
             }
         }
     }
-    println!("reverse: {met:?}, rewrites {:?}", &rewrites[..10]);
-    for number in [0, 1, 2, 3, 4, 5, 6, 8] {
-        assert!(met[number] > GENERATED / 100, "{number} comes up {} times", met[number]);
-    }
+    met.are("reverse", &[0, 1, 2, 3, 4, 5, 6, 8], GENERATED / 100);
+    println!("rewrites {:?}", &rewrites[..10]);
     assert!(rewrites[1..5].iter().all(|times| *times > GENERATED / 400), "{rewrites:?}");
 }
 

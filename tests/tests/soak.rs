@@ -1,12 +1,18 @@
-//! A million random calls over all exported functions, each compared with the reference, outputs guarded on both sides.
+//! A million random calls over all exported functions, each compared with the reference, outputs guarded on both sides;
+//! and a sample of them under valgrind.
 
 use a6plan_tests::soak::{soak, FUNCTIONS};
+use std::io::{stderr, Write};
+use std::process::Command;
 
 /// Calls in each half.
 const CALLS: usize = 500_000;
 
+/// Calls under valgrind, and their seed.
+const SAMPLE: [&str; 2] = ["20000", "63"];
+
 /// The numbers that each function can give.
-const NUMBERS: [&[usize]; FUNCTIONS.len()] = [
+const NUMBERS: [&[u32]; FUNCTIONS.len()] = [
     &[0, 4, 5],
     &[0, 5, 10, 11, 12, 13],
     &[0, 5, 7, 10, 12],
@@ -20,17 +26,10 @@ const NUMBERS: [&[usize]; FUNCTIONS.len()] = [
 /// Half of the calls. Every function is called often, and gives each of its numbers and no other.
 fn half(seed: u64) {
     let met = soak(seed, CALLS);
-    assert_eq!(met.iter().flatten().sum::<usize>(), CALLS);
-    for ((function, numbers), may) in FUNCTIONS.iter().zip(&met).zip(NUMBERS) {
-        println!("{function}: {numbers:?}");
-        assert!(numbers.iter().sum::<usize>() > CALLS / 10, "{function}");
-        for (number, times) in numbers.iter().enumerate() {
-            if may.contains(&number) {
-                assert!(*times > CALLS / 1_000, "{function} gives {number} {times} times");
-            } else {
-                assert_eq!(*times, 0, "{function} gives {number}");
-            }
-        }
+    assert_eq!(met.iter().map(|met| met.all()).sum::<usize>(), CALLS);
+    for ((function, met), may) in FUNCTIONS.iter().zip(&met).zip(NUMBERS) {
+        assert!(met.all() > CALLS / 10, "{function}");
+        met.are(function, may, CALLS / 1_000);
     }
 }
 
@@ -42,4 +41,20 @@ fn one_half_of_a_million_calls() {
 #[test]
 fn the_other_half_of_a_million_calls() {
     half(62);
+}
+
+/// Valgrind sees octets read or written outside what was lent, and unset ones that decide something. Where it is not
+/// installed nothing is run, and a line says so; it goes to standard error itself, past the test runner, which keeps
+/// what a test prints when it passes.
+#[test]
+fn a_sample_of_the_calls_under_valgrind() {
+    if Command::new("valgrind").arg("--version").output().is_err() {
+        writeln!(stderr(), "SKIPPED: a sample of the calls under valgrind, which is not installed").expect("a line");
+        return;
+    }
+    let mut valgrind = Command::new("valgrind");
+    valgrind.args(["--quiet", "--error-exitcode=9", env!("CARGO_BIN_EXE_soak")]).args(SAMPLE);
+    let run = valgrind.output().expect("valgrind runs");
+    assert!(run.status.success(), "{}: {}", run.status, String::from_utf8_lossy(&run.stderr));
+    assert_eq!(String::from_utf8_lossy(&run.stdout).lines().count(), FUNCTIONS.len());
 }

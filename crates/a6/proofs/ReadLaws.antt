@@ -1,41 +1,32 @@
 -- Laws of the reader: one for each test, and what holds where all are passed. Assumes nothing.
 use Prim.Native.Nat.{ℕ, zero, suc, _+_, _-_, _/_, _%_, _^_, _≤_, _<_}
 use mathlib.Core.Path.{_≡_, refl, ap, _∙_, sym}
-use mathlib.Core.Bool.{Bool, true, false, not}
+use mathlib.Core.Bool.{true, not}
 use mathlib.Core.List.{List, [], _∷_, _++_, append-nil}
 use lib.Dec.{ltb, eqb}
 use lib.ListN.{length, getD, take, drop, set, length-drop}
 use lib.Bits.{bitAnd, and-mask}
 use lib.Seq.{take-all, length-take-le, getD-at, set-at, paste}
 use native.Mathlib.Omega.{arith}
-use borrow.Author.Tests.{lt-ltb, le-ltb, eq-eqb, ne-eqb, ltb-false, eqb-true, eqb-false}
+use borrow.Author.Tests.{lt-ltb, le-ltb, eq-eqb, ne-eqb, ltb-false, eqb-false}
 use Rattle.octets.specs.Octets.{blank, Small}
 use Rattle.octets.specs.Answers.{earns}
 use Rattle.octets.proofs.OctetLaws.{length-blank, small-drop, small-take, drop-blank}
-use Rattle.octets.proofs.SmallLaws.{earns-zero}
+use Rattle.octets.proofs.SmallLaws.{earns-zero, earns-own}
 use Rattle.names.specs.Scan.{scanOf, wellFormed}
+use Rattle.names.specs.Standard.{standardOf}
 use Rattle.names.specs.Steps.{scanned, found}
 use Rattle.names.specs.Name.{nameOf, heldOf}
 use Rattle.names.specs.declared.Scanned.{Scanned}
 use Rattle.names.specs.declared.Name.{Name}
-use Rattle.names.proofs.AnswerLaws.{form-good, copied}
-use Rattle.names.proofs.StandardLaws.{scan-standard, in-standard}
+use Rattle.names.proofs.AnswerLaws.{form-good}
 use Rattle.names.proofs.FrontLaws.{scan-inside}
-use Rattle.names.proofs.MergeLaws.{begins-start}
 use Rattle.names.proofs.NameLaws.{held-formed}
 use Rattle.a6.specs.Data.{suffixOctets, prefixOf, suffixOf, afterSuffix}
 use Rattle.a6.specs.Read.{nameFound, readNumber, aligned, addressIn, nameOctets, nameIn, valueOf, given, refusedReading, readingFor, readOf}
 use Rattle.a6.specs.Standard.{withoutPadding}
 use Rattle.a6.specs.declared.Reading.{Reading}
 use Rattle.a6.proofs.SuffixLaws.{join-suffix}
-
--- a number of its own, or what the later tests earn
-earns-own : (k later : ℕ) → earns (not (eqb k 0)) k later ≡ 0 → (k ≡ 0) × (later ≡ 0)
-earns-own k later e = go (eqb k 0) refl
-  where
-    go : (t : Bool) → eqb k 0 ≡ t → (k ≡ 0) × (later ≡ 0)
-    go true f = (eqb-true k 0 f, (rw f at e))
-    go false f = let z : k ≡ 0 = rw f at e in absurd (eqb-false k 0 f z)
 
 -- the data has a prefix length in range and its suffix
 pub record Fronted (octets : List ℕ) : Type 0 where
@@ -154,6 +145,9 @@ module _ (octets : List ℕ) where
       rw (name-rest (r .full)) (form-good xs (sym (ap (λ (t : Scanned). t .number) w) ∙ r .named) k)
 
 -- the parts that the code has found
+pub name-held : (octets out : List ℕ) (n : ℕ) → out ≡ nameIn octets .octets → n ≡ nameIn octets .length → _≡_ {A = Name} (record { octets = out; length = n }) (nameIn octets)
+name-held octets out n p q = rw (p, q)
+
 pub given-reading : (octets address : List ℕ) (name : Name) → readNumber octets ≡ 0 → address ≡ addressIn octets → name ≡ nameIn octets → given (prefixOf octets) address name ≡ readOf octets
 unfolding valueOf
 given-reading octets address name e p q = rw (p, q) (sym (done-reading octets e))
@@ -161,14 +155,6 @@ given-reading octets address name e p q = rw (p, q) (sym (done-reading octets e)
 -- what stands after n octets of suffix, as a part that reaches the end
 abbrev pub partAfter : ℕ → List ℕ → List ℕ
 partAfter n octets = take (length octets - (1 + n)) (drop (1 + n) octets)
-
--- a name that fills this part: the data can be read, and its name is the one that stands here
-pub record Whole (octets : List ℕ) (n : ℕ) : Type 0 where
-  pub number : readNumber octets ≡ 0
-  pub formed : wellFormed (partAfter n octets) ≡ true
-  pub short : length (partAfter n octets) ≤ 255
-  pub small : Small (partAfter n octets)
-  pub name : heldOf (partAfter n octets) ≡ nameIn octets
 
 module _ (octets : List ℕ) (n : ℕ) (e : n ≡ suffixOctets (prefixOf octets)) where
   part-after : partAfter n octets ≡ afterSuffix octets
@@ -178,18 +164,16 @@ module _ (octets : List ℕ) (n : ℕ) (e : n ≡ suffixOctets (prefixOf octets)
   pub part-found : (t : Scanned) → (prefixOf octets ≡ 0 → ⊥) → t ≡ scanned (scanOf (partAfter n octets)) → nameFound octets ≡ t
   part-found t z p = found-some octets z ∙ sym (p ∙ rw part-after)
 
-  pub part-whole : Small octets → Fronted octets → (prefixOf octets ≡ 0 → ⊥) → nameFound octets .number ≡ 0 → length octets - (1 + n) ≤ nameFound octets .used → Whole octets n
-  part-whole s f z k u =
-      let h : length octets ≤ 1 + suffixOctets (prefixOf octets) + nameFound octets .used = omega (arith, f .long) in
-      let m : nameOctets octets ≡ partAfter n octets = name-rest octets h ∙ sym part-after in
-      let w : wellFormed (partAfter n octets) ≡ true = rw (← m) (name-formed octets s (record { fronted = f; named = k; full = h }) z) in
-      record {
-        number = read-done octets f k h;
-        formed = w;
-        short = begins-start (partAfter n octets) w .short;
-        small = small-take (length octets - (1 + n)) (drop (1 + n) octets) (small-drop (1 + n) octets s);
-        name = ap heldOf (sym m) ∙ sym (name-some octets z);
-      }
+  -- in readable data this part is the name
+  module _ (small : Small octets) (r : Readable octets) (z : prefixOf octets ≡ 0 → ⊥) where
+    part-octets : nameOctets octets ≡ partAfter n octets
+    part-octets = name-rest octets (r .full) ∙ sym part-after
+
+    pub part-formed : wellFormed (partAfter n octets) ≡ true
+    part-formed = rw (← part-octets) (name-formed octets small r z)
+
+    pub part-name : nameIn octets ≡ nameOf (standardOf (partAfter n octets))
+    part-name = name-some octets z ∙ rw part-octets (held-formed (partAfter n octets) part-formed)
 
 -- the suffix copied to the last of sixteen octets, and the zeros before it
 take-blank : (k n : ℕ) → k ≤ n → take k (blank n) ≡ blank k
@@ -254,12 +238,3 @@ ones (suc (suc (suc (suc (suc (suc (suc (suc p)))))))) h = let z : ⊥ = omega a
 
 pub mask-octet : (x p : ℕ) → p < 8 → bitAnd x (255 / 2 ^ p) ≡ x % 2 ^ (8 - p)
 mask-octet x p h = rw (ones p h) (and-mask x (8 - p))
-
--- octets copied over zeros
-pub name-copied : (name out : List ℕ) → out ≡ paste (blank 255) 0 name (length name) → _≡_ {A = Name} (record { octets = out; length = length name }) (nameOf name)
-unfolding nameOf
-name-copied name out p = rw (copied name out (length name) 255 refl p)
-
--- a name in standard form is held as it is
-pub held-standard : (name : List ℕ) → Small name → wellFormed name ≡ true → scanned (scanOf name) .standard ≡ true → nameOf name ≡ heldOf name
-held-standard name s w t = sym (held-formed name w ∙ ap nameOf (in-standard name (sym (scan-standard name s w) ∙ t) .1))

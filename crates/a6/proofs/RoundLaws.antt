@@ -1,5 +1,5 @@
 -- What is read can be written, and what can be written is read again. Assumes nothing.
-use Prim.Native.Nat.{ℕ, zero, suc, _+_, _-_, _%_, _^_, _≤_, _<_}
+use Prim.Native.Nat.{ℕ, zero, suc, _+_, _-_, _%_, _^_, _≤_}
 use mathlib.Core.Path.{_≡_, refl, ap, _∙_, sym}
 use mathlib.Core.Bool.{Bool, true, false}
 use mathlib.Core.List.{List, [], _∷_, _++_}
@@ -11,7 +11,7 @@ use native.Mathlib.Nat.{mod-mod}
 use borrow.Author.Tests.{eq-eqb, ne-eqb, eqb-true, eqb-false}
 use Rattle.octets.specs.Octets.{blank, Small}
 use Rattle.octets.proofs.OctetLaws.{length-blank, small-drop, small-take, nil-of-length}
-use Rattle.octets.proofs.SmallLaws.{small-append}
+use Rattle.octets.proofs.SmallLaws.{small-cons, small-append}
 use Rattle.octets.proofs.ZeroLaws.{blank-eq}
 use Rattle.names.specs.Scan.{scanOf}
 use Rattle.names.specs.Steps.{scanned}
@@ -103,10 +103,6 @@ name-again n e k z =
     let d : drop (n .length) (n .octets) ≡ blank (255 - n .length) = rw m at (blank-eq (drop (n .length) (n .octets)) z) in
     let l : length (take (n .length) (n .octets)) ≡ n .length = length-take-le (n .length) (n .octets) (omega arith) in
     rw (l, ← d, take-append-drop (n .length) (n .octets))
-
-small-cons : (x : ℕ) (xs : List ℕ) → x < 256 → Small xs → Small (x ∷ xs)
-small-cons x xs h k zero = h
-small-cons x xs h k (suc i) = k i
 
 -- data that was written
 module _ (v : Value) (long : length (v .address) ≡ 16) (w : Writable v) where

@@ -1,11 +1,11 @@
 // A6 data: a value, its reader and its writer (01, A6 data).
 ghost use mathlib.Core.Path.{_≡_};
 ghost use mathlib.Core.List.{[], _∷_, _++_};
-ghost use Prim.Native.Nat.{_+_, _-_, _%_, _^_, _≤_, _<_};
+ghost use Prim.Native.Nat.{_+_, _≤_};
 ghost use lib.ListN.{length};
 ghost use Rattle.names.specs.Name.{nameOf};
-ghost use Rattle.a6.specs.Data.{longest, suffixOctets, prefixOf};
-ghost use Rattle.a6.specs.Read.{readOf, addressIn, refusedReading, given};
+ghost use Rattle.a6.specs.Data.{longest, suffixOctets};
+ghost use Rattle.a6.specs.Read.{readOf, refusedReading, given};
 ghost use Rattle.a6.specs.Write.{over, nameFits, writeAnswer, writeOut};
 
 // The longest prefix (01, A6 data).
@@ -28,42 +28,18 @@ pub struct Reading {
 pub fn read(rdata: &[u8]) -> Reading
     ensures { λ r. ⌜ r ≡ readOf (now (rdata .entry)) ⌝ }
 {
-    let n = rdata.len();
-    if n == 0 {
-        return refused(11);
-    }
-    let prefix = rdata[0];
-    if LONGEST < prefix {
-        return refused(10);
-    }
-    let at = 1 + suffix_octets(prefix);
-    if n < at {
-        return refused(11);
-    }
-    let address = address_in(rdata);
-    if prefix == 0 {
-        if at < n {
-            return refused(13);
-        }
-        let name = no_name();
-        return done(prefix, address, name);
-    }
-    let t = names::scan(&rdata[at..]);
+    let t = inside::check(rdata);
     let number = t.number;
-    let used = t.used;
     let standard = t.standard;
     if number != 0 {
         return refused(number);
     }
-    if used < n - at {
-        return refused(13);
-    }
-    if standard {
-        let name = copied(&rdata[at..]);
-        return done(prefix, address, name);
-    }
-    let name = names::hold(&rdata[at..]);
-    done(prefix, address, name)
+    let mut address = [0u8; 16];
+    inside::put_address(rdata, &mut address);
+    let mut octets = [0u8; 255];
+    let length = inside::put_name(rdata, standard, &mut octets);
+    let name = names::Name { octets, length };
+    done(rdata[0], address, name)
 }
 
 // The data of a value, with zeros after it, and its length: 10 for a prefix length over 128, 12 for a value that the reader cannot give, 7 for an output
@@ -146,45 +122,6 @@ fn done(prefix: u8, address: [u8; 16], name: names::Name) -> Reading
     Reading { number: 0, value }
 }
 
-// The suffix in the last of sixteen octets, without its padding.
-fn address_in(rdata: &[u8]) -> [u8; 16]
-    requires { ⌜ (prefixOf (now rdata) ≤ longest) × (1 + suffixOctets (prefixOf (now rdata)) ≤ length (now rdata)) ⌝ }
-    ensures { λ r. ⌜ r ≡ addressIn (now (rdata .entry)) ⌝ }
-{
-    let prefix = rdata[0];
-    let suffix = suffix_octets(prefix);
-    let first = 16 - suffix;
-    let mut out = [0u8; 16];
-    octets::inside::copy(rdata, 1, suffix, &mut out, first);
-    if suffix == 0 {
-        return out;
-    }
-    out[first] = unpadded(out[first], prefix % 8);
-    out
-}
-
-// An octet whose first p bits are made zero.
-fn unpadded(x: u8, p: u8) -> u8
-    requires { ⌜ p < 8 ⌝ }
-    ensures { λ r. ⌜ r ≡ x % 2 ^ (8 - p) ⌝ }
-{
-    x & (255u8 >> p)
-}
-
-// The value that holds octets as they are.
-fn copied(name: &[u8]) -> names::Name
-    requires { ⌜ length (now name) ≤ 255 ⌝ }
-    ensures { λ r. ⌜ r ≡ nameOf (now (name .entry)) ⌝ }
-{
-    let n = name.len();
-    let mut octets = [0u8; 255];
-    octets::inside::copy(name, 0, n, &mut octets, 0);
-    names::Name {
-        octets,
-        length: n as u8,
-    }
-}
-
 // The three parts of data, one after the other at the front of an output that has room for them.
 fn put(prefix: u8, suffix: &[u8], name: &[u8], out: &mut [u8])
     requires { ⌜ 1 + length (now suffix) + length (now name) ≤ length (now out) ⌝ }
@@ -205,3 +142,5 @@ fn name_fits(prefix: u8, name: &[u8]) -> bool
     }
     names::is_standard(name)
 }
+
+pub mod inside;

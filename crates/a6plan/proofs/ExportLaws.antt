@@ -1,19 +1,21 @@
 -- Laws of what an answer becomes at the C interface. Assumes nothing.
-use Prim.Native.Nat.{ℕ, zero, suc, _≤_, _<_}
+use Prim.Native.Nat.{ℕ, zero, suc, _+_, _-_, _≤_, _<_}
 use mathlib.Core.Path.{_≡_, refl, ap, _∙_, sym}
 use mathlib.Core.Bool.{Bool, true, false}
 use mathlib.Core.List.{List, [], _∷_, _++_, append-nil, append-assoc}
 use lib.Dec.{eqb, ltb}
-use lib.ListN.{length, getD, take, drop, set, length-set, drop-of-length-le}
-use lib.Seq.{paste, take-all, take-paste, length-paste}
+use lib.ListN.{length, getD, take, drop, set, length-append, drop-of-length-le}
+use lib.Seq.{paste, take-all, take-at, drop-at, set-at}
 use native.Mathlib.Nat.{zero-add}
 use native.Mathlib.Omega.{arith}
 use borrow.Author.Tests.{eq-eqb, ne-eqb, lt-ltb, le-ltb, eqb-true, eqb-false, ltb-true, ltb-false}
 use Rattle.octets.specs.Octets.{blank}
 use Rattle.octets.specs.declared.Answer.{Answer}
-use Rattle.octets.proofs.PackLaws.{take-more}
+use Rattle.octets.proofs.OctetLaws.{length-blank}
 use Rattle.a6.specs.declared.Value.{Value}
 use Rattle.a6.specs.declared.Reading.{Reading}
+use Rattle.a6.specs.Read.{readNumber, refusedReading, readOf}
+use Rattle.a6.proofs.ReadLaws.{refused-own}
 use Rattle.a6plan.specs.Exports.{valueSize, valueOctets, exportedReadNumber, exportedValue, exportedWriteNumber, exportedWriteOut, valueIn, exportedNumber, exportedFigures, exportedOut}
 
 module _ (n k : ℕ) where
@@ -80,22 +82,51 @@ figures-written a b (x ∷ y ∷ z ∷ fs) h = let w : ⊥ = omega arith in absu
 pub paste-whole : (d s : List ℕ) (n : ℕ) → length d ≡ n → paste d 0 s n ≡ take n s
 paste-whole d s n h = rw (zero-add n, drop-of-length-le d {i = n} (omega arith)) (append-nil (take n s))
 
--- the four parts of a value, written one after the other
-pub value-written : (out address octets : List ℕ) (p l : ℕ) → length out ≡ 273 → length address ≡ 16 → length octets ≡ 255
-    → paste (set (paste (set out 0 p) 1 (drop 0 address) 16) 17 l) 18 (drop 0 octets) 255 ≡ p ∷ (address ++ (l ∷ octets))
-value-written out address octets p l h k m =
-    let o1 = set out 0 p in
-    let l1 : length o1 ≡ 273 = length-set out 0 p ∙ h in
-    let o2 = paste o1 1 address 16 in
-    let l2 : length o2 ≡ 273 = length-paste o1 1 address 16 (omega arith) (omega arith) ∙ l1 in
-    let o3 = set o2 17 l in
-    let l3 : length o3 ≡ 273 = length-set o2 17 l ∙ l2 in
-    let o4 = paste o3 18 octets 255 in
-    let l4 : length o4 ≡ 273 = length-paste o3 18 octets 255 (omega arith) (omega arith) ∙ l3 in
-    sym (take-all 273 o4 (omega arith))
-    ∙ take-paste o3 18 octets 255 (omega arith) (omega arith)
-    ∙ ap (λ (ys : List ℕ). ys ++ take 255 octets) (take-more o2 17 l (omega arith) ∙ ap (λ (ys : List ℕ). ys ++ (l ∷ [])) (take-paste o1 1 address 16 (omega arith) (omega arith) ∙ ap (λ (ys : List ℕ). ys ++ take 16 address) (take-more out 0 p (omega arith))))
-    ∙ rw (take-all 16 address (omega arith), take-all 255 octets (omega arith)) (append-assoc (p ∷ address) (l ∷ []) octets)
+-- sixteen octets put into a value, and those of the name after them
+abbrev pub addressed : List ℕ → List ℕ → List ℕ
+addressed v address = take 1 v ++ (address ++ drop 16 (drop 1 v))
+
+abbrev pub named : List ℕ → List ℕ → List ℕ
+named w octets = take 18 w ++ (octets ++ drop (length w - 18) (drop 18 w))
+
+-- the parts of a value, put into zeros
+pub address-blank : (v : List ℕ) → v ≡ blank valueSize → take 16 (drop 1 v) ≡ blank 16
+unfolding blank
+address-blank v h = rw h
+
+module _ (v address : List ℕ) (h : v ≡ blank valueSize) (a : length address ≡ 16) where
+  front-long : length ((0 ∷ address) ++ (0 ∷ [])) ≡ 18
+  front-long = length-append (0 ∷ address) (0 ∷ []) ∙ omega arith
+
+  with-address : addressed v address ≡ ((0 ∷ address) ++ (0 ∷ [])) ++ blank 255
+  unfolding blank
+  with-address = rw h (ap (λ (ys : List ℕ). 0 ∷ ys) (sym (append-assoc address (0 ∷ []) (blank 255))))
+
+  address-long : length (addressed v address) ≡ valueSize
+  address-long = rw with-address (length-append ((0 ∷ address) ++ (0 ∷ [])) (blank 255) ∙ omega (arith, front-long, length-blank 255))
+
+  rest-blank : drop 18 (addressed v address) ≡ blank 255
+  rest-blank = rw with-address (drop-at ((0 ∷ address) ++ (0 ∷ [])) (blank 255) 18 front-long)
+
+  pub name-blank : take (length (addressed v address) - 18) (drop 18 (addressed v address)) ≡ blank 255
+  name-blank = rw (address-long, rest-blank) (take-all 255 (blank 255) (omega (arith, length-blank 255)))
+
+  with-name : (octets : List ℕ) → named (addressed v address) octets ≡ 0 ∷ (address ++ (0 ∷ octets))
+  with-name octets =
+      let t : take 18 (addressed v address) ≡ (0 ∷ address) ++ (0 ∷ []) = rw with-address (take-at ((0 ∷ address) ++ (0 ∷ [])) (blank 255) 18 front-long) in
+      let d : drop (length (addressed v address) - 18) (drop 18 (addressed v address)) ≡ [] = rw (address-long, rest-blank) (drop-of-length-le (blank 255) {i = 255} (omega (arith, length-blank 255))) in
+      rw (t, d, append-nil octets) (append-assoc (0 ∷ address) (0 ∷ []) octets)
+
+  pub value-long : (octets : List ℕ) → length octets ≡ 255 → length (named (addressed v address) octets) ≡ valueSize
+  value-long octets m = let n = length-append address (0 ∷ octets) in rw (with-name octets) (omega (arith, n))
+
+  pub value-put : (octets : List ℕ) (p l : ℕ) → set (set (named (addressed v address) octets) 0 p) 17 l ≡ p ∷ (address ++ (l ∷ octets))
+  value-put octets p l = rw (with-name octets) (set-at (p ∷ address) 0 octets l 17 (omega arith))
+
+-- a refused reading shows zeros
+pub refused-value : (octets : List ℕ) → (readNumber octets ≡ 0 → ⊥) → valueOctets (readOf octets .value) ≡ blank valueSize
+unfolding valueOctets refusedReading blank
+refused-value octets z = ap (λ (r : Reading). valueOctets (r .value)) (sym (refused-own octets (readNumber octets) z refl))
 
 -- the numbers of reading and writing at this interface
 module _ (n : ℕ) (r : Reading) where

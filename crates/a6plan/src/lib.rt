@@ -10,7 +10,7 @@ ghost use Rattle.plan.specs.Part.{ownerPart};
 ghost use Rattle.forward.specs.Lookup.{lookupAnswer, lookupOut};
 ghost use Rattle.reverse.specs.Answers.{reverseAnswer, reverseOut};
 ghost use Rattle.collapse.specs.Collapse.{collapseAnswer, collapseOut};
-ghost use Rattle.a6plan.specs.Exports.{partAnswer, valueSize, valueOctets, valueIn, exportedReadNumber, exportedValue, exportedWriteNumber, exportedWriteOut, exportedNumber, exportedFigures, exportedOut};
+ghost use Rattle.a6plan.specs.Exports.{partAnswer, valueSize, valueIn, exportedReadNumber, exportedValue, exportedWriteNumber, exportedWriteOut, exportedNumber, exportedFigures, exportedOut};
 
 // The octets of an A6 value at this interface.
 const VALUE: usize = 273;
@@ -36,15 +36,21 @@ pub extern "C" fn a6plan_read(rdata: &[u8], value: &mut [u8]) -> u32
     ensures number { λ r. ⌜ r ≡ exportedReadNumber (length (now (value .entry))) (readOf (now (rdata .entry))) ⌝ }
     ensures valued { λ _. ⌜ now (value .exit) ≡ exportedValue (length (now (value .entry))) (readOf (now (rdata .entry))) ⌝ }
 {
+    octets::clear(value);
     if value.len() != VALUE {
-        octets::clear(value);
         return 5;
     }
-    let reading = a6::read(rdata);
-    let number = reading.number;
-    let found = reading.value;
-    put_value(found, value);
-    number as u32
+    let checked = a6::inside::check(rdata);
+    let number = checked.number;
+    let standard = checked.standard;
+    if number != 0 {
+        return number as u32;
+    }
+    a6::inside::put_address(rdata, &mut value[1..17]);
+    let length = a6::inside::put_name(rdata, standard, &mut value[18..]);
+    value[0] = rdata[0];
+    value[17] = length;
+    0
 }
 
 // The A6 data of a value of 273 octets, with zeros after it; figures: the octets written and 0.
@@ -154,20 +160,6 @@ pub extern "C" fn a6plan_collapse(
         octets::clear(out);
     }
     number
-}
-
-// A value in 273 octets.
-fn put_value(value: a6::Value, out: &mut [u8])
-    requires { ⌜ length (now out) ≡ valueSize ⌝ }
-    ensures { λ _. ⌜ now (out .exit) ≡ valueOctets value ⌝ }
-{
-    let address = value.address;
-    let name = value.name;
-    let octets = name.octets;
-    out[0] = value.prefix;
-    octets::inside::copy(&address, 0, 16, out, 1);
-    out[17] = name.length;
-    octets::inside::copy(&octets, 0, 255, out, 18);
 }
 
 // The value of 273 octets.

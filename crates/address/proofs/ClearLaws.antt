@@ -16,7 +16,9 @@ use Rattle.octets.specs.Bits.{bitsOf, unpack}
 use Rattle.octets.proofs.OctetLaws.{length-blank}
 use Rattle.octets.proofs.BitLaws.{unpack-zero}
 use Rattle.address.specs.Address.{bits, bitAt, joinOf, allZero, clearTo}
-use Rattle.address.proofs.BitsLaws.{unpack-all}
+use Rattle.octets.proofs.SmallLaws.{small-blank}
+use Rattle.octets.proofs.BoolLaws.{and-true}
+use Rattle.octets.proofs.UnpackLaws.{unpack-all}
 use Rattle.address.proofs.AddressLaws.{bit-ext, join-length, join-bit-high}
 
 -- nothing but zeros, bit by bit
@@ -100,20 +102,10 @@ unfolding blank clearTo
 clear-blank n zero = refl
 clear-blank n (suc m) = clear-nought n (blank m) ∙ clear-blank (n - 8) m
 
-small-blank : (n : ℕ) → Small (blank n)
-unfolding blank
-small-blank zero i = omega arith
-small-blank (suc n) zero = omega arith
-small-blank (suc n) (suc i) = small-blank n i
-
 pub clear-all : (a : List ℕ) → length a ≡ 16 → Small a → clearTo 128 a ≡ true → a ≡ blank 16
 clear-all a e s c =
     bit-ext a (blank 16) e (length-blank 16) s (small-blank 16)
     (λ i p. clear-bits 128 a (omega arith) c i p ∙ sym (clear-bits 128 (blank 16) (omega arith) (clear-blank 128 16) i p))
-
-and-true : (t : Bool) → (t && true) ≡ t
-and-true true = refl
-and-true false = refl
 
 -- octet i, with what is left of the n bits from there on
 module _ (n i : ℕ) (a : List ℕ) (p : i < length a) where

@@ -14,9 +14,9 @@ use native.Mathlib.Numerals.{add-one}
 use borrow.Author.Tests.{ltb-true, ltb-false}
 use Rattle.octets.specs.Octets.{Small}
 use Rattle.octets.specs.Bits.{bitsOf, unpack, packFrom}
-use Rattle.octets.proofs.BitLaws.{pack-some, pack-full}
+use Rattle.octets.proofs.BitLaws.{pack-some, pack-full, unpack-octet}
 use Rattle.address.specs.Address.{joinOf}
-use Rattle.address.proofs.BitsLaws.{unpack-octet, octet-take, octet-drop, past-octet, beyond-octet}
+use Rattle.octets.proofs.UnpackLaws.{octet-take, octet-drop, past-octet, beyond-octet}
 
 -- the first n bits of an octet, then those of another
 abbrev pub mix : ℕ → ℕ → ℕ → ℕ
@@ -27,7 +27,10 @@ abbrev every : List ℕ → List ℕ
 every xs = unpack (length xs * 8) xs
 
 every-octet : (x : ℕ) (xs : List ℕ) → every (x ∷ xs) ≡ bitsOf 8 x ++ every xs
-every-octet x xs = let e : suc (length xs) * 8 ≡ 8 + length xs * 8 = omega arith in ap (λ (m : ℕ). unpack m (x ∷ xs)) e ∙ unpack-octet (length xs * 8) x xs
+every-octet x xs =
+    let e : suc (length xs) * 8 ≡ 8 + length xs * 8 = omega arith in
+    let e′ : 8 + length xs * 8 - 8 ≡ length xs * 8 = omega arith in
+    ap (λ (m : ℕ). unpack m (x ∷ xs)) e ∙ unpack-octet (8 + length xs * 8) x xs (omega arith) ∙ ap (λ (m : ℕ). bitsOf 8 x ++ unpack m xs) e′
 
 -- one octet with bits of both
 mix-octet : (r x y : ℕ) (rest : List ℕ) → r < 8 → x < 256 → packFrom 0 0 (bitsOf r (x / 2 ^ (8 - r)) ++ (bitsOf (8 - r) y ++ rest)) ≡ mix r x y ∷ packFrom 0 0 rest

@@ -1,4 +1,3 @@
-pub mod BitsLaws
 pub mod AddressLaws
 pub mod JoinLaws
 pub mod ClearLaws

@@ -10,9 +10,10 @@ use lib.Seq.{drop-cons}
 use lib.Arith.{digits-lt}
 use native.Mathlib.Omega.{arith}
 use native.Mathlib.Numerals.{add-one}
-use native.Mathlib.Nat.{pow-succ'}
 use borrow.Author.Tests.{ltb-true, ltb-false, lt-ltb, le-ltb}
 use Rattle.octets.specs.Octets.{Small}
+use Rattle.octets.specs.Numbers.{valueOf}
+use Rattle.octets.proofs.NumberLaws.{value-small}
 use Rattle.address.specs.declared.Order.{Order}
 use Rattle.address.specs.declared.Order.the-variants.{Before, Same, After}
 use Rattle.address.specs.Order.{orderOf, Precedes}
@@ -127,16 +128,6 @@ precedes-total a b = go (orderOf a b) refl
     go Before e = inl e
     go Same e = inr (inl (same-equal a b e))
     go After e = inr (inr (after-precedes a b e))
-
--- the number that octets write, the highest first
-unfoldable pub valueOf : List ℕ → ℕ
-valueOf [] = 0
-valueOf (x ∷ xs) = x * 256 ^ length xs + valueOf xs
-
-value-small : (xs : List ℕ) → Small xs → valueOf xs < 256 ^ length xs
-unfolding valueOf
-value-small [] s = omega arith
-value-small (x ∷ xs) s = rw (pow-succ' 256 (length xs)) (digits-lt (s 0) (value-small xs (λ i. s (suc i))))
 
 -- between addresses the order is that of their numbers
 pub precedes-value : (a b : List ℕ) → length a ≡ length b → Small a → Small b → Precedes a b → valueOf a < valueOf b

@@ -159,3 +159,9 @@ module _ (f : ℕ → ℕ) where
       go : Dec (i ≡ n) → (i < n → getD us i 0 ≡ f i) → getD (us ++ (f n ∷ [])) i 0 ≡ f i
       go (yes e) r = rw e (getD-at us (f n) [] 0 n (length-upTo n))
       go (no m) r = let l : i < n = omega (arith, m) in List·getD-append us (f n ∷ []) 0 i (omega (arith, length-upTo n)) ∙ r l
+
+-- the element at a position
+pub in-at : (l : List (List ℕ)) (j : ℕ) → j < length l → In (getD l j []) l
+in-at [] j h = let z : ⊥ = omega arith in absurd z
+in-at (r ∷ l) zero h = inl refl
+in-at (r ∷ l) (suc j) h = inr (in-at l j (omega arith))

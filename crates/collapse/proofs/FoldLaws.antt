@@ -7,7 +7,7 @@ use mathlib.Core.List.{List, [], _∷_, _++_, append-nil}
 use native.Mathlib.Omega.{arith}
 use lib.ListN.{length, getD}
 use Rattle.chains.specs.Lists.{In, upTo}
-use Rattle.chains.proofs.ListLaws.{in-upTo, upTo-in, in-pick}
+use Rattle.chains.proofs.ListLaws.{in-at, in-upTo, upTo-in, in-pick}
 use Rattle.plan.specs.Layout.{recordSize, countOf, recordAt}
 use Rattle.plan.proofs.LayoutLaws.{Whole, record-length}
 use Rattle.collapse.specs.Fold.{unfinished, continues, joinedOf, madeOf, placeOf, foldOf}
@@ -36,11 +36,6 @@ module _ (x t : List ℕ) (i : ℕ) where
   place-off e = rw e
 
 -- ---- elements by their positions
-pub in-at : (l : List (List ℕ)) (j : ℕ) → j < length l → In (getD l j []) l
-in-at [] j h = let z : ⊥ = omega arith in absurd z
-in-at (r ∷ l) zero h = inl refl
-in-at (r ∷ l) (suc j) h = inr (in-at l j (omega arith))
-
 at-in : (r : List ℕ) (l : List (List ℕ)) → In r l → (j : ℕ) × (j < length l) × (getD l j [] ≡ r)
 at-in r (s ∷ l) (inl e) = (0, omega arith, sym e)
 at-in r (s ∷ l) (inr m) = let p = at-in r l m in (suc (p .0), omega (arith, p .1), p .2)

@@ -6,16 +6,16 @@ use mathlib.Core.List.{List, [], _++_, append-nil}
 use native.Mathlib.Omega.{arith}
 use native.Mathlib.Decide.{ℕ-discrete}
 use lib.Dec.{ltb, eqb}
-use lib.ListN.{length, getD, drop, set, replicate, getD-replicate, length-set, length-take, length-drop}
+use lib.ListN.{length, getD, set, replicate, getD-replicate, length-set}
 use lib.Seq.{getD-set-same, getD-set-other}
 use borrow.Author.Tests.{lt-ltb, ltb-true, ltb-false, eq-eqb, eqb-true}
 use Rattle.names.proofs.StandardLaws.{same-same-name}
 use Rattle.chains.specs.Lists.{upTo}
 use Rattle.chains.proofs.ListLaws.{true-both, both-true}
 use Rattle.plan.specs.First.{firstFrom}
-use Rattle.plan.specs.Layout.{maxRecords, nameRoom, slotSize, targetPlace, nameIn, targetSlot, targetOf, countOf, recordAt, prefixAt, ownerAt, targetAt}
+use Rattle.plan.specs.Layout.{maxRecords, ownerSlot, targetSlot, countOf, recordAt, prefixAt, ownerAt, targetAt}
 use Rattle.plan.specs.Check.{InOrder}
-use Rattle.plan.proofs.FirstLaws.{first-on, first-here}
+use Rattle.plan.proofs.FirstLaws.{first-on, first-here, first-most}
 use Rattle.plan.proofs.FaultLaws.{targetless-on}
 use Rattle.plan.proofs.OrderLaws.{order-count, order-good}
 use Rattle.plan.proofs.MarkLaws.{same-mark}
@@ -31,15 +31,6 @@ first-least f i zero = omega arith
 first-least f i (suc n) = go (f i) refl (first-least f (suc i) n)
   where
     go : (b : Bool) → f i ≡ b → suc i ≤ firstFrom f (suc i) n → i ≤ firstFrom f i (suc n)
-    go true e h = rw (firstFrom, e) (omega arith)
-    go false e h = rw (firstFrom, e) (omega arith)
-
-first-most : (f : ℕ → Bool) (i n : ℕ) → firstFrom f i n ≤ i + n
-unfolding firstFrom
-first-most f i zero = omega arith
-first-most f i (suc n) = go (f i) refl (first-most f (suc i) n)
-  where
-    go : (b : Bool) → f i ≡ b → firstFrom f (suc i) n ≤ suc i + n → firstFrom f i (suc n) ≤ i + suc n
     go true e h = rw (firstFrom, e) (omega arith)
     go false e h = rw (firstFrom, e) (omega arith)
 
@@ -71,13 +62,13 @@ module _ (t : List ℕ) (b : ℕ) where
   unfolding firstIn
   first-found i h l = first-passes (belongs t b) i (maxRecords - i) (omega arith)
 
-  belongs-is : (j : ℕ) → belongs t b j ≡ true → (j < countOf t) × (bucketOf (ownerAt t j) ≡ b)
+  belongs-is : (j : ℕ) → belongs t b j ≡ true → (j < countOf t) × (bucketOf (ownerSlot (recordAt t j)) ≡ b)
   unfolding belongs
-  belongs-is j e = let p = both-true (ltb j (countOf t)) (eqb (bucketOf (ownerAt t j)) b) e in (ltb-true j (countOf t) (p .0), eqb-true (bucketOf (ownerAt t j)) b (p .1))
+  belongs-is j e = let p = both-true (ltb j (countOf t)) (eqb (bucketOf (ownerSlot (recordAt t j))) b) e in (ltb-true j (countOf t) (p .0), eqb-true (bucketOf (ownerSlot (recordAt t j))) b (p .1))
 
-  is-belongs : (j : ℕ) → j < countOf t → bucketOf (ownerAt t j) ≡ b → belongs t b j ≡ true
+  is-belongs : (j : ℕ) → j < countOf t → bucketOf (ownerSlot (recordAt t j)) ≡ b → belongs t b j ≡ true
   unfolding belongs
-  is-belongs j h e = true-both (ltb j (countOf t)) (eqb (bucketOf (ownerAt t j)) b) (lt-ltb j (countOf t) h) (eq-eqb (bucketOf (ownerAt t j)) b e)
+  is-belongs j h e = true-both (ltb j (countOf t)) (eqb (bucketOf (ownerSlot (recordAt t j))) b) (lt-ltb j (countOf t) h) (eq-eqb (bucketOf (ownerSlot (recordAt t j))) b e)
 
   first-none : countOf t ≤ maxRecords → firstIn t b (countOf t) ≡ maxRecords
   first-none m = go (ltb (firstIn t b (countOf t)) maxRecords) refl
@@ -89,11 +80,11 @@ module _ (t : List ℕ) (b : ℕ) where
           absurd z
       go false e = omega (arith, first-within (countOf t) m, ltb-false (firstIn t b (countOf t)) maxRecords e)
 
-  first-own : (i : ℕ) → i < countOf t → countOf t ≤ maxRecords → bucketOf (ownerAt t i) ≡ b → firstIn t b i ≡ i
+  first-own : (i : ℕ) → i < countOf t → countOf t ≤ maxRecords → bucketOf (ownerSlot (recordAt t i)) ≡ b → firstIn t b i ≡ i
   unfolding firstIn
   first-own i h m e = first-here (belongs t b) i maxRecords (omega arith) (is-belongs i h e)
 
-  first-past : (i : ℕ) → i < countOf t → countOf t ≤ maxRecords → (bucketOf (ownerAt t i) ≡ b → ⊥) → firstIn t b i ≡ firstIn t b (i + 1)
+  first-past : (i : ℕ) → i < countOf t → countOf t ≤ maxRecords → (bucketOf (ownerSlot (recordAt t i)) ≡ b → ⊥) → firstIn t b i ≡ firstIn t b (i + 1)
   unfolding firstIn
   first-past i h m e = first-on (belongs t b) i maxRecords (omega arith) (refuted (belongs t b i) (λ k. e (belongs-is i k .1)))
 
@@ -110,7 +101,7 @@ linked-none t heads next m lh ln h = record {
 pub linked-start : (t : List ℕ) → InOrder t → Linked t (replicate 256 1024) (replicate 1024 1024) (countOf t)
 linked-start t o = linked-none t (replicate 256 1024) (replicate 1024 1024) (order-count t o) refl refl (λ b l. getD-replicate 256 b 1024 0 l)
 
-pub linked-more : (t heads next : List ℕ) (i b : ℕ) → i < countOf t → countOf t ≤ maxRecords → b ≡ bucketOf (ownerAt t i) → b < 256
+pub linked-more : (t heads next : List ℕ) (i b : ℕ) → i < countOf t → countOf t ≤ maxRecords → b ≡ bucketOf (ownerSlot (recordAt t i)) → b < 256
     → Linked t heads next (i + 1) → Linked t (set heads b i) (set next i (getD heads b 0)) i
 linked-more t heads next i b h m e l k = record {
   buckets = length-set heads b i ∙ k .buckets;
@@ -123,22 +114,13 @@ linked-more t heads next i b h m e l k = record {
     at-head c p (yes d) = ap (λ (v : ℕ). getD (set heads b i) v 0) d ∙ getD-set-same heads b i 0 (omega (arith, k .buckets)) ∙ sym (first-own t c i h m (sym e ∙ sym d))
     at-head c p (no d) = getD-set-other heads b c i 0 d ∙ k .head c p ∙ sym (first-past t c i h m (λ f. d (sym f ∙ sym e)))
 
-    at-next : (j : ℕ) → i ≤ j → j < countOf t → Dec (j ≡ i) → getD (set next i (getD heads b 0)) j 0 ≡ firstIn t (bucketOf (ownerAt t j)) (j + 1)
+    at-next : (j : ℕ) → i ≤ j → j < countOf t → Dec (j ≡ i) → getD (set next i (getD heads b 0)) j 0 ≡ firstIn t (bucketOf (ownerSlot (recordAt t j))) (j + 1)
     at-next j p q (yes d) =
         ap (λ (v : ℕ). getD (set next i (getD heads b 0)) v 0) d ∙ getD-set-same next i (getD heads b 0) 0 (omega (arith, k .records)) ∙ k .head b l
         ∙ rw (d, ← e)
     at-next j p q (no d) = getD-set-other next i j (getD heads b 0) 0 d ∙ k .after j (omega (arith, d)) q
 
 -- ---- what is passed over makes nothing
-pub target-short : (r : List ℕ) → length (targetOf r) ≤ nameRoom
-unfolding nameIn targetSlot
-target-short r =
-    let s = targetSlot r in
-    let a = length-take (getD s 0 0) (drop 1 s) in
-    let b = length-drop 1 s in
-    let d = length-take slotSize (drop targetPlace r) in
-    omega arith
-
 pub upTo-skip : (f : ℕ → List (List ℕ)) (a b : ℕ) → a ≤ b → ((k : ℕ) → a ≤ k → k < b → f k ≡ []) → upTo b f ≡ upTo a f
 unfolding upTo
 upTo-skip f a zero h s = let e : a ≡ 0 = omega arith in rw e
@@ -150,28 +132,28 @@ upTo-skip f a (suc b) h s = go (ℕ-discrete a (suc b)) (upTo-skip f a b)
 
 module _ (t : List ℕ) (o : InOrder t) (i : ℕ) (h : i < countOf t) (l : 0 < prefixAt t i) where
   -- a record of another bucket is no q
-  made-other : (k : ℕ) → k < countOf t → belongs t (bucketOf (targetAt t i)) k ≡ false → madeOf t (recordAt t i) k ≡ []
+  made-other : (k : ℕ) → k < countOf t → belongs t (bucketOf (targetSlot (recordAt t i))) k ≡ false → madeOf t (recordAt t i) k ≡ []
   unfolding bucketOf
   made-other k q e = made-off t (recordAt t i) k (refuted (continues (recordAt t i) (recordAt t k)) (λ c.
       let s = continues-is (recordAt t i) (recordAt t k) c in
-      let m = same-mark (ownerAt t k) (targetAt t i) (order-good t o k q .owner .name)
-      (order-good t o i h .target (targetless-on (recordAt t i) (λ z. omega arith)) .name) (same-same-name (ownerAt t k) (targetAt t i) (s .2)) in
-      not-both (belongs t (bucketOf (targetAt t i)) k) (is-belongs t (bucketOf (targetAt t i)) k q (ap (λ (v : ℕ). v % 256) m)) e))
+      let m = same-mark (ownerSlot (recordAt t k)) (targetSlot (recordAt t i)) (order-good t o k q .owner)
+      (order-good t o i h .target (targetless-on (recordAt t i) (λ z. omega arith))) (same-same-name (ownerAt t k) (targetAt t i) (s .2)) in
+      not-both (belongs t (bucketOf (targetSlot (recordAt t i))) k) (is-belongs t (bucketOf (targetSlot (recordAt t i))) k q (ap (λ (v : ℕ). v % 256) m)) e))
 
   -- from a on, nothing is made before the first record of the target's bucket
-  pub walk : (a : ℕ) → a ≤ countOf t → upTo (min (firstIn t (bucketOf (targetAt t i)) a) (countOf t)) (madeOf t (recordAt t i)) ≡ upTo a (madeOf t (recordAt t i))
+  pub walk : (a : ℕ) → a ≤ countOf t → upTo (min (firstIn t (bucketOf (targetSlot (recordAt t i))) a) (countOf t)) (madeOf t (recordAt t i)) ≡ upTo a (madeOf t (recordAt t i))
   walk a p =
-      let b = bucketOf (targetAt t i) in
+      let b = bucketOf (targetSlot (recordAt t i)) in
       let w = first-from t b a in
       upTo-skip (madeOf t (recordAt t i)) a (min (firstIn t b a) (countOf t)) (omega arith)
       (λ k q r. made-other k (omega arith) (first-passed t b a k q (omega arith)))
 
   -- a step of the walk along the bucket: where it comes to, and that nothing is made on the way
-  pub walked : (a j : ℕ) → a ≤ countOf t → countOf t ≤ maxRecords → j ≡ firstIn t (bucketOf (targetAt t i)) a
-      → (a ≤ j) × (j ≤ maxRecords) × (j < countOf t → bucketOf (ownerAt t j) ≡ bucketOf (targetAt t i))
+  pub walked : (a j : ℕ) → a ≤ countOf t → countOf t ≤ maxRecords → j ≡ firstIn t (bucketOf (targetSlot (recordAt t i))) a
+      → (a ≤ j) × (j ≤ maxRecords) × (j < countOf t → bucketOf (ownerSlot (recordAt t j)) ≡ bucketOf (targetSlot (recordAt t i)))
       × (upTo (min j (countOf t)) (madeOf t (recordAt t i)) ≡ upTo a (madeOf t (recordAt t i)))
   walked a j p m e =
-      let b = bucketOf (targetAt t i) in (
+      let b = bucketOf (targetSlot (recordAt t i)) in (
         rw e (first-from t b a),
         rw e (first-within t b a (omega arith)),
         (λ q. rw e (belongs-is t b (firstIn t b a) (first-found t b a (omega arith) (omega arith)) .1)),

@@ -11,7 +11,7 @@ use lib.Seq.{getD-append-add}
 use borrow.Author.Tests.{ltb-true, ltb-false}
 use Rattle.names.specs.Standard.{sameName}
 use Rattle.chains.specs.Lists.{In, upTo}
-use Rattle.chains.proofs.ListLaws.{in-upTo}
+use Rattle.chains.proofs.ListLaws.{in-upTo, in-at}
 use Rattle.plan.specs.Layout.{maxRecords, dname, typeOf, countOf, recordAt, ownerOf, octetsOf}
 use Rattle.plan.specs.Check.{InOrder}
 use Rattle.plan.specs.Good.{Good}
@@ -20,7 +20,7 @@ use Rattle.plan.proofs.OrderLaws.{order-good, order-apart, order-made}
 use Rattle.collapse.specs.Fold.{unfinished, placeOf, foldOf}
 use Rattle.collapse.proofs.TestLaws.{unfinished-is}
 use Rattle.collapse.proofs.RecordLaws.{joined-good, joins}
-use Rattle.collapse.proofs.FoldLaws.{Source, Copy, in-at, made-source, place-on, place-off, fold-source, fold-whole}
+use Rattle.collapse.proofs.FoldLaws.{Source, Copy, made-source, place-on, place-off, fold-source, fold-whole}
 
 -- ---- the DNAMEs of the rule's records stand as they stood
 module _ (x t : List ℕ) where

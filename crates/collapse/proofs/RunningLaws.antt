@@ -9,7 +9,8 @@ use native.Mathlib.Nat.{add-zero, suc-mul}
 use lib.Dec.{leb, ltb, eqb}
 use lib.ListN.{length, take, drop, length-append, length-drop, drop-of-length-le}
 use lib.Seq.{paste, take-at, drop-drop, drop-append-add, take-all, length-take-le}
-use borrow.Author.Tests.{lt-ltb, le-ltb, le-leb, lt-leb, ltb-true, ltb-false, eqb-true, eqb-false, ne-eqb}
+use borrow.Author.Tests.{lt-ltb, le-ltb, le-leb, lt-leb, ltb-true, ltb-false, eqb-true, eqb-false}
+use Rattle.plan.proofs.FaultLaws.{a6-not}
 use Rattle.octets.specs.Octets.{blank}
 use Rattle.names.specs.Standard.{sameName, standardOf}
 use Rattle.chains.specs.Lists.{pick, upTo}
@@ -36,14 +37,10 @@ second-no false b c e = refl
 third : (a b c : Bool) → a ≡ true → b ≡ true → a && b && c ≡ c
 third a b c e f = rw (e, f)
 
-not-a6 : (r : List ℕ) → (typeOf r ≡ a6 → ⊥) → isA6 r ≡ false
-unfolding isA6
-not-a6 r h = ne-eqb (typeOf r) a6 h
-
 module _ (x r : List ℕ) where
   pub unfinished-other : (typeOf r ≡ a6 → ⊥) → unfinished x r ≡ false
   unfolding unfinished
-  unfinished-other h = first-no (isA6 r) (ltb 0 (prefixOf r)) (sameName (ownerOf r) x) (not-a6 r h)
+  unfinished-other h = first-no (isA6 r) (ltb 0 (prefixOf r)) (sameName (ownerOf r) x) (a6-not r h)
 
   pub unfinished-zero : prefixOf r ≡ 0 → unfinished x r ≡ false
   unfolding unfinished
@@ -55,7 +52,7 @@ module _ (x r : List ℕ) where
 
   pub refers-other : (typeOf r ≡ a6 → ⊥) → refers x r ≡ false
   unfolding refers
-  refers-other h = first-no (isA6 r) (ltb 0 (prefixOf r)) (sameName (targetOf r) x) (not-a6 r h)
+  refers-other h = first-no (isA6 r) (ltb 0 (prefixOf r)) (sameName (targetOf r) x) (a6-not r h)
 
   pub refers-zero : prefixOf r ≡ 0 → refers x r ≡ false
   unfolding refers
@@ -68,7 +65,7 @@ module _ (x r : List ℕ) where
 module _ (r q : List ℕ) where
   pub continues-other : (typeOf q ≡ a6 → ⊥) → continues r q ≡ false
   unfolding continues
-  continues-other h = first-no (isA6 q) (leb (prefixOf q) (prefixOf r)) (sameName (ownerOf q) (targetOf r)) (not-a6 q h)
+  continues-other h = first-no (isA6 q) (leb (prefixOf q) (prefixOf r)) (sameName (ownerOf q) (targetOf r)) (a6-not q h)
 
   pub continues-long : prefixOf r < prefixOf q → continues r q ≡ false
   unfolding continues

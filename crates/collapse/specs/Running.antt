@@ -8,7 +8,7 @@ use lib.ListN.{length, getD}
 use lib.Seq.{paste}
 use Rattle.chains.specs.Lists.{pick}
 use Rattle.plan.specs.First.{firstFrom}
-use Rattle.plan.specs.Layout.{recordSize, maxRecords, prefixOf, ownerSlot, nameIn, countOf, recordAt, prefixAt, ownerAt}
+use Rattle.plan.specs.Layout.{recordSize, maxRecords, prefixOf, ownerSlot, countOf, recordAt, prefixAt}
 use Rattle.plan.specs.Marks.{markOf}
 use Rattle.plan.specs.Good.{Good}
 use Rattle.collapse.specs.Fold.{unfinished, refers, foldOf}
@@ -33,15 +33,15 @@ unfoldable pub spanOf : List ℕ → List ℕ → ℕ → Span
 unfolding leastOf mostOf refers unfinished recordAt prefixOf
 spanOf x t n = record { shortest = leastOf (λ i. refers x (recordAt t i)) (prefixAt t) n; longest = mostOf (λ i. unfinished x (recordAt t i)) (prefixAt t) n }
 
--- the bucket of a name, one of 256; the same names share it
+-- the bucket of a slot, one of 256; slots of the same name share it
 unfoldable pub bucketOf : List ℕ → ℕ
 unfolding markOf
-bucketOf name = markOf name % 256
+bucketOf s = markOf s % 256
 
--- the record at j is one whose owner belongs to the bucket b
+-- the record at j is one whose owner's slot belongs to the bucket b
 unfoldable pub belongs : List ℕ → ℕ → ℕ → Bool
-unfolding countOf recordAt nameIn ownerSlot bucketOf
-belongs t b j = ltb j (countOf t) && eqb (bucketOf (ownerAt t j)) b
+unfolding countOf recordAt ownerSlot bucketOf
+belongs t b j = ltb j (countOf t) && eqb (bucketOf (ownerSlot (recordAt t j))) b
 
 -- the first of them from i on, 1,024 where there is none
 unfoldable pub firstIn : List ℕ → ℕ → ℕ → ℕ
@@ -53,7 +53,7 @@ pub record Linked (t heads next : List ℕ) (i : ℕ) : Type 0 where
   pub buckets : length heads ≡ 256
   pub records : length next ≡ maxRecords
   pub head : (b : ℕ) → b < 256 → getD heads b 0 ≡ firstIn t b i
-  pub after : (j : ℕ) → i ≤ j → j < countOf t → getD next j 0 ≡ firstIn t (bucketOf (ownerAt t j)) (j + 1)
+  pub after : (j : ℕ) → i ≤ j → j < countOf t → getD next j 0 ≡ firstIn t (bucketOf (ownerSlot (recordAt t j))) (j + 1)
 
 -- the output with one record as its record n, and as it was where there is no room for that
 unfoldable pub storedOne : List ℕ → ℕ → List ℕ → List ℕ

@@ -8,7 +8,7 @@ ghost use Rattle.octets.specs.Answers.{refusal};
 ghost use Rattle.names.specs.Standard.{inStandardForm};
 ghost use Rattle.address.specs.Address.{joinOf};
 ghost use Rattle.chains.specs.Lists.{pick, upTo};
-ghost use Rattle.plan.specs.Layout.{recordSize, maxRecords, nameRoom, prefixOf, prefixAt, addressAt, countOf, recordAt};
+ghost use Rattle.plan.specs.Layout.{recordSize, maxRecords, slotSize, prefixOf, prefixAt, addressAt, countOf, recordAt};
 ghost use Rattle.plan.specs.Check.{InOrder};
 ghost use Rattle.collapse.specs.Fold.{unfinished, continues, refers, joinedOf, madeOf, placeOf};
 ghost use Rattle.collapse.specs.Collapse.{collapseAnswer, collapseOut};
@@ -217,17 +217,17 @@ fn link(table: &[u8], i: usize, heads: &mut [u16], next: &mut [u16])
     requires { ⌜ (i < countOf (now table)) × (countOf (now table) ≤ maxRecords) × Linked (now table) (now heads) (now next) (i + 1) ⌝ }
     ensures { λ _. ⌜ Linked (now (table .entry)) (now (heads .exit)) (now (next .exit)) i ⌝ }
 {
-    let b = bucket(plan::inside::owner(table, i));
+    let b = bucket(plan::inside::owner_slot(plan::inside::row(table, i)));
     next[i] = heads[b];
     heads[b] = i as u16;
 }
 
-// The bucket of a name, one of 256: the same names share it.
-fn bucket(name: &[u8]) -> usize
-    requires { ⌜ length (now name) ≤ nameRoom ⌝ }
-    ensures { λ r. ⌜ (r ≡ bucketOf (now (name .entry))) × (r < 256) ⌝ }
+// The bucket of a slot, one of 256: slots of the same name share it.
+fn bucket(slot: &[u8]) -> usize
+    requires { ⌜ length (now slot) ≡ slotSize ⌝ }
+    ensures { λ r. ⌜ (r ≡ bucketOf (now (slot .entry))) × (r < 256) ⌝ }
 {
-    plan::inside::mark(name) as usize % 256
+    plan::inside::mark(slot) as usize % 256
 }
 
 // What stands in the place of the record i, from record n of the output on; where the next record goes.
@@ -260,7 +260,7 @@ fn put_each(table: &[u8], i: usize, heads: &[u16], next: &[u16], out: &mut [u8],
     ensures { λ _. ⌜ now (out .exit) ≡ stored (now (out .entry)) n (upTo (countOf (now (table .entry))) (madeOf (now (table .entry)) (recordAt (now (table .entry)) i))) ⌝ }
 {
     let count = plan::inside::count(table);
-    let b = bucket(plan::inside::target(table, i));
+    let b = bucket(plan::inside::target_slot(plan::inside::row(table, i)));
     let mut m = n;
     let mut j = heads[b] as usize;
     while j < count {

@@ -7,11 +7,11 @@ use mathlib.Core.List.{List, [], _∷_, _++_}
 use native.Mathlib.Decide.{decLt}
 use native.Mathlib.Omega.{arith}
 use lib.Dec.{eqb}
-use lib.ListN.{length, drop, length-take, length-drop}
+use lib.ListN.{length, getD, replicate}
 use borrow.Author.Tests.{lt-ltb, le-ltb, eqb-true}
-use Rattle.octets.specs.Octets.{Small, blank}
+use Rattle.octets.specs.Octets.{blank}
 use Rattle.octets.specs.Answers.{answering, refusal}
-use Rattle.octets.proofs.OctetLaws.{small-take, small-drop, length-blank}
+use Rattle.octets.proofs.OctetLaws.{length-blank}
 use Rattle.chains.specs.Lists.{In, pick}
 use Rattle.chains.specs.Graph.{Graph, Sound}
 use Rattle.chains.specs.Chain.{lastLength, spelt}
@@ -19,14 +19,16 @@ use Rattle.chains.specs.Listing.{chainsOf, workOf}
 use Rattle.chains.specs.Addresses.{insert, gather, addressesOf, spell}
 use Rattle.chains.proofs.Listed.{listed-chain}
 use Rattle.chains.proofs.SpellingLaws.{spelt-length, spell-spelt, addresses-spell}
-use Rattle.forward.specs.Rows.{Kept, keepIn}
+use Rattle.forward.specs.Rows.{Kept, maxFigures, kept, keepIn, Holds}
 use Rattle.forward.specs.Search.{Records, graphOf, State, visit, run, searched}
-use Rattle.forward.specs.Halves.{octetsOf, addressOf}
+use Rattle.octets.specs.Numbers.{octetsOf}
+use Rattle.forward.specs.Halves.{addressOf}
 use Rattle.forward.specs.Links.{Linked, Numbered, Fresh, Memory, memory, stateOf, unusedOf, searchOf, Fit, Done}
 use Rattle.forward.specs.Answers.{flat, numberOf, answerOf, outputOf}
+use Rattle.forward.proofs.HalvesLaws.{address-length, address-small}
 use Rattle.forward.proofs.LinkLaws.{marks-none}
 use Rattle.forward.proofs.SearchLaws.{visit-over, visit-within, run-over}
-use Rattle.forward.proofs.KeepingLaws.{Holds, keep-holds, insert-length}
+use Rattle.forward.proofs.KeepingLaws.{keep-holds, insert-length}
 
 -- ---- a run within the limit, and one beyond it
 module _ {N : Type 0} (g : Graph N) (limit b : ℕ) (a : List ℕ) where
@@ -75,20 +77,20 @@ gather-length g b f (p ∷ ps) l = let r = gather-length g b f ps (pick (eqb (la
 abbrev pub start : ℕ → Kept
 start room = record { out = blank (room * 16); count = 0; full = false }
 
+begun : (room : ℕ) → Holds room [] (start room)
+unfolding flat
+begun room = record { rows = tt; ascending = tt; stands = inl (refl, refl, omega arith, ap (λ (n : ℕ). blank (n * 16)) (let z : room ≡ room - 0 = omega arith in z)) }
+
 module _ {N : Type 0} (g : Graph N) (sound : Sound g) (x : N) (limit room : ℕ) (s : State) (e : s ≡ searched g limit (blank (g .size)) x 128 (blank 16) (0, start room)) where
   ran : s ≡ run g limit 128 (blank 16) (0, start room) (chainsOf g x)
   unfolding searched chainsOf
   ran = e
 
-  begun : Holds room [] (start room)
-  unfolding flat
-  begun = record { rows = tt; ascending = tt; stands = inl (refl, refl, omega arith, ap (λ (n : ℕ). blank (n * 16)) (let z : room ≡ room - 0 = omega arith in z)) }
-
   within : workOf g x ≤ limit → (s .0 ≡ workOf g x) × Holds room (addressesOf g x) (s .1)
   unfolding workOf
   within h =
       let r = run-holds g limit 128 (blank 16) room (chainsOf g x) (0, start room) []
-      (λ p m z. ap length (spell-spelt g sound x p (blank 16) (listed-chain g x p m .0) z (length-blank 16)) ∙ spelt-length g p) begun (omega arith) in
+      (λ p m z. ap length (spell-spelt g sound x p (blank 16) (listed-chain g x p m .0) z (length-blank 16)) ∙ spelt-length g p) (begun room) (omega arith) in
       rw (ran, addresses-spell g sound x) (omega (arith, r .0), r .1)
 
   beyond : limit < workOf g x → limit < s .0
@@ -159,17 +161,22 @@ module _ {N : Type 0} (g : Graph N) (x : N) (number k : ℕ) (e : number ≡ suc
   refused-output size = rw e
 
 -- ---- the arrays as a graph
-pub numbered-sound : (r : Records) → Numbered r → Small (r .addresses) → Sound (graphOf r)
-numbered-sound r n s = record {
-  sixteen = λ i l. omega (arith, length-take 16 (drop (i * 16) (r .addresses)), length-drop (i * 16) (r .addresses), n .octets, n .owned .few);
-  small = λ i l. small-take 16 (drop (i * 16) (r .addresses)) (small-drop (i * 16) (r .addresses) s);
+pub numbered-sound : (r : Records) → Numbered r → Sound (graphOf r)
+numbered-sound r n = record {
+  sixteen = λ i l. address-length (getD (r .highs) i 0) (getD (r .lows) i 0);
+  small = λ i l. address-small (getD (r .highs) i 0) (getD (r .lows) i 0);
   short = n .short;
 }
 
 -- ---- where the search begins: every record in its list, nothing kept
-module _ (r : Records) (n : Numbered r) (next prev out : List ℕ) (limit : ℕ) (h : Fresh (r .owners) next prev) where
+module _ (r : Records) (n : Numbered r) (next prev out : List ℕ) (limit : ℕ) (h : Fresh (r .owners) next prev) (whole : length out % 16 ≡ 0) (zeros : out ≡ blank (length out)) where
   abbrev first : Memory
-  first = memory next prev out (0 ∷ 0 ∷ []) 0
+  first = memory next prev out (replicate maxFigures 0) 0
+
+  begins : kept (first .out) (first .figures) ≡ start (length out / 16)
+  begins =
+      let q : length out ≡ length out / 16 * 16 = omega arith in
+      λ i. record { out = (zeros ∙ ap blank q) i; count = 0; full = false }
 
   none-used : unusedOf r first ≡ blank (length (r .owners))
   none-used = marks-none (r .owners) (blank (length (r .owners))) next prev (h .linked) refl
@@ -179,8 +186,9 @@ module _ (r : Records) (n : Numbered r) (next prev out : List ℕ) (limit : ℕ)
     numbered = n;
     nodes = h .nodes;
     linked = subst (λ (u : List ℕ). Linked (r .owners) u next prev) (sym none-used) (h .linked);
-    two = refl;
+    places = refl;
     room = omega arith;
+    ordered = record { room = length out / 16; list = []; holds = subst (Holds (length out / 16) []) (sym begins) (begun (length out / 16)) };
     some = omega arith;
     bounded = omega arith;
     limited = l;
@@ -190,9 +198,6 @@ module _ (r : Records) (n : Numbered r) (next prev out : List ℕ) (limit : ℕ)
   unfolding addressOf octetsOf blank
   nothing-yet = refl
 
-  pub state-first : (x : ℕ) (m′ : Memory) → length out % 16 ≡ 0 → out ≡ blank (length out) → Done first m′ (searchOf r limit x 128 (addressOf 0 0) first)
+  pub state-first : (x : ℕ) (m′ : Memory) → Done first m′ (searchOf r limit x 128 (addressOf 0 0) first)
       → stateOf m′ ≡ searched (graphOf r) limit (blank (length (r .owners))) x 128 (blank 16) (0, start (length out / 16))
-  state-first x m′ l z d =
-      let q : length out ≡ length out / 16 * 16 = omega arith in
-      let o : out ≡ blank (length out / 16 * 16) = z ∙ ap blank q in
-      d .state ∙ λ i. searched (graphOf r) limit (none-used i) x 128 (nothing-yet i) (0, record { out = o i; count = 0; full = false })
+  state-first x m′ d = d .state ∙ λ i. searched (graphOf r) limit (none-used i) x 128 (nothing-yet i) (0, begins i)

@@ -7,10 +7,11 @@ use native.Mathlib.Omega.{arith}
 use lib.Dec.{eqb}
 use lib.ListN.{length, getD, set, replicate, length-set, length-replicate, getD-replicate}
 use lib.Seq.{getD-set-same, getD-set-other, ext-getD}
+use Rattle.octets.proofs.BoolLaws.{clash}
 use Rattle.octets.specs.Octets.{blank}
 use Rattle.octets.proofs.OctetLaws.{length-blank}
 use Rattle.forward.specs.Links.{lists, First, Last, Linked, Alone}
-use Rattle.forward.proofs.NodeLaws.{clash, below?, same?}
+use Rattle.forward.proofs.NodeLaws.{below?, same?}
 use Rattle.forward.proofs.LinkLaws.{lists-yes, lists-used, lists-other, lists-owner, lists-free}
 
 pub alone-more : (l : List ℕ) (i : ℕ) → i < length l → Alone l i → Alone (set l i i) (i + 1)

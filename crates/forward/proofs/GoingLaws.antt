@@ -8,13 +8,17 @@ use native.Mathlib.Omega.{arith}
 use lib.Dec.{leb, eqb}
 use lib.ListN.{length, getD}
 use borrow.Author.Tests.{eq-eqb, eqb-true, leb-true}
+use Rattle.octets.proofs.BoolLaws.{clash}
 use Rattle.chains.specs.Listing.{fits}
 use Rattle.chains.proofs.ListingLaws.{fits-is, is-fits}
+use Rattle.forward.specs.Rows.{maxFigures, Ordered}
 use Rattle.forward.specs.Search.{Records, graphOf, State, stepped}
 use Rattle.forward.specs.Links.{lists, First, Linked, Memory, memory, stateOf, unusedOf, searchOf, stepOf, Fit, Done}
-use Rattle.forward.proofs.NodeLaws.{clash, below?}
+use Rattle.forward.proofs.HalvesLaws.{address-length}
+use Rattle.forward.proofs.KeepingLaws.{keep-ordered}
+use Rattle.forward.proofs.NodeLaws.{below?}
 use Rattle.forward.proofs.LinkLaws.{lists-yes, lists-owner, lists-free}
-use Rattle.forward.proofs.SearchLaws.{searchedTo, to-none, to-all, to-skip, to-step, to-end}
+use Rattle.forward.proofs.SearchLaws.{searchedTo, to-none, to-all, to-keeps, to-skip, to-step, to-end}
 
 -- what is equal part by part
 pub memory-eq : {n n′ p p′ o o′ f f′ : List ℕ} {w w′ : ℕ} → n′ ≡ n → p′ ≡ p → o′ ≡ o → f′ ≡ f → w′ ≡ w → memory n′ p′ o′ f′ w′ ≡ memory n p o f w
@@ -75,20 +79,20 @@ module _ (r : Records) (limit x b : ℕ) (a : List ℕ) (m : Memory) where
     pub next : m′ .next ≡ m .next
     pub prev : m′ .prev ≡ m .prev
     pub state : stateOf m′ ≡ to (min i n)
-    pub two : length (m′ .figures) ≡ 2
+    pub places : length (m′ .figures) ≡ maxFigures
     pub room : getD (m′ .figures) 0 0 * 16 ≤ length (m .out)
     pub out : length (m′ .out) ≡ length (m .out)
     pub listed : i < n → lists (r .owners) u x i ≡ true
 
   module _ (k : Linked (r .owners) u (m .next) (m .prev)) where
-    pub going-start : (i : ℕ) → length (m .figures) ≡ 2 → n + x < length (m .next) → getD (m .figures) 0 0 * 16 ≤ length (m .out) → i ≡ getD (m .next) (n + x) 0 → Going m i
+    pub going-start : (i : ℕ) → length (m .figures) ≡ maxFigures → n + x < length (m .next) → getD (m .figures) 0 0 * 16 ≤ length (m .out) → i ≡ getD (m .next) (n + x) 0 → Going m i
     going-start i t l o e =
         let h = subst (First (lists (r .owners) u x) n (n + x) 0) (sym e) (k .head x l) in
         record {
           next = refl;
           prev = refl;
           state = to-none (graphOf r) limit u x b a (stateOf m) ∙ sym (pass-to 0 (min i n) (omega arith) (λ w p q. h .none w p (omega arith) (omega arith)));
-          two = t;
+          places = t;
           room = o;
           out = refl;
           listed = λ o. h .here o .1;
@@ -108,7 +112,7 @@ module _ (r : Records) (limit x b : ℕ) (a : List ℕ) (m : Memory) where
           below? (getD (m .next) i 0) n (λ o. let q = follows .here o .0 in omega arith) (λ o. omega arith)
 
       -- on from i, where what the records up to i give is known
-      going : (m″ : Memory) (j : ℕ) → m″ .next ≡ m .next → m″ .prev ≡ m .prev → stateOf m″ ≡ to (suc i) → length (m″ .figures) ≡ 2
+      going : (m″ : Memory) (j : ℕ) → m″ .next ≡ m .next → m″ .prev ≡ m .prev → stateOf m″ ≡ to (suc i) → length (m″ .figures) ≡ maxFigures
           → getD (m″ .figures) 0 0 * 16 ≤ length (m .out) → length (m″ .out) ≡ length (m .out) → j ≡ getD (m″ .next) i 0 → Going m″ j
       going m″ j en ep es t o lo ej =
           let h = subst (First (lists (r .owners) u x) n (n + x) (suc i)) (sym (ej ∙ ap (λ (w : List ℕ). getD w i 0) en)) follows in
@@ -117,7 +121,7 @@ module _ (r : Records) (limit x b : ℕ) (a : List ℕ) (m : Memory) where
             next = en;
             prev = ep;
             state = es ∙ sym (pass-to (suc i) (min j n) s (λ w p q. h .none w p (omega arith) (omega arith)));
-            two = t;
+            places = t;
             room = o;
             out = lo;
             listed = λ o. h .here o .1;
@@ -129,7 +133,7 @@ module _ (r : Records) (limit x b : ℕ) (a : List ℕ) (m : Memory) where
       -- a record that is too long is passed over
       pub going-skip : (j : ℕ) → leb (getD (r .lengths) i 0) b ≡ false → j ≡ getD (m′ .next) i 0 → Going m′ j
       going-skip j l ej =
-          going m′ j (v .next) (v .prev) (at-i ∙ sym (to-skip (graphOf r) limit u x b a (stateOf m) i (long-unfit r u x b i l))) (v .two) (v .room) (v .out) ej
+          going m′ j (v .next) (v .prev) (at-i ∙ sym (to-skip (graphOf r) limit u x b a (stateOf m) i (long-unfit r u x b i l))) (v .places) (v .room) (v .out) ej
 
       -- the links are as they were
       same-links : _≡_ {A = Memory} (memory (m′ .next) (m′ .prev) (m .out) (m .figures) 0) (memory (m .next) (m .prev) (m .out) (m .figures) 0)
@@ -139,13 +143,15 @@ module _ (r : Records) (limit x b : ℕ) (a : List ℕ) (m : Memory) where
       same-unused = ap (unusedOf r) same-links
 
       -- and the step is taken into any other: the memory is fit for it
-      pub going-fit : Fit r m b limit → Fit r m′ b limit
-      going-fit f = record {
+      pub going-fit : Fit r m b limit → length a ≡ 16 → Fit r m′ b limit
+      going-fit f w = record {
         numbered = f .numbered;
         nodes = ap length (v .next) ∙ f .nodes;
         linked = subst (λ (w : Memory). Linked (r .owners) (unusedOf r w) (w .next) (w .prev)) (sym same-links) k;
-        two = v .two;
+        places = v .places;
         room = subst (λ (w : ℕ). getD (m′ .figures) 0 0 * 16 ≤ w) (sym (v .out)) (v .room);
+        ordered = subst (λ (s : State). Ordered (s .1)) (sym at-i)
+            (to-keeps (graphOf r) limit u x b a (stateOf m) Ordered (λ j. address-length (getD (r .highs) j 0) (getD (r .lows) j 0)) keep-ordered w (f .ordered) i);
         some = f .some;
         bounded = f .bounded;
         limited = f .limited;
@@ -157,7 +163,7 @@ module _ (r : Records) (limit x b : ℕ) (a : List ℕ) (m : Memory) where
           going m″ j (d .next ∙ v .next) (d .prev ∙ v .prev)
           (d .state ∙ ap (λ (w : List ℕ). stepped (graphOf r) limit w i b a (stateOf m′)) same-unused ∙ ap (stepped (graphOf r) limit u i b a) at-i
           ∙ sym (to-step (graphOf r) limit u x b a (stateOf m) i (listed-fits r u x b i (v .listed li) l)))
-          (d .two) (subst (λ (w : ℕ). getD (m″ .figures) 0 0 * 16 ≤ w) (v .out) (d .room)) (lo ∙ v .out) ej
+          (d .places) (subst (λ (w : ℕ). getD (m″ .figures) 0 0 * 16 ≤ w) (v .out) (d .room)) (lo ∙ v .out) ej
 
       -- past the limit the rest changes nothing
       pub going-over : limit < m′ .work → Done m m′ (searchOf r limit x b a m)
@@ -165,7 +171,7 @@ module _ (r : Records) (limit x b : ℕ) (a : List ℕ) (m : Memory) where
         next = v .next;
         prev = v .prev;
         state = at-i ∙ sym (to-end (graphOf r) limit u x b a (stateOf m) i (omega arith) (subst (λ (w : State). limit < w .0) at-i h));
-        two = v .two;
+        places = v .places;
         room = v .room;
       }
 
@@ -176,6 +182,6 @@ module _ (r : Records) (limit x b : ℕ) (a : List ℕ) (m : Memory) where
           next = v .next;
           prev = v .prev;
           state = v .state ∙ ap to e ∙ to-all (graphOf r) limit u x b a (stateOf m);
-          two = v .two;
+          places = v .places;
           room = v .room;
         }

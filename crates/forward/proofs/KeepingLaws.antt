@@ -8,24 +8,20 @@ use native.Mathlib.Decide.{decLt}
 use native.Mathlib.Omega.{arith}
 use lib.ListN.{length, getD, take, drop, length-append, length-take, length-drop, replicate-append-replicate}
 use lib.Seq.{drop-cons, take-at, drop-at, take-append-add, drop-append-add}
+use Rattle.chains.proofs.ListLaws.{in-at}
 use Rattle.octets.specs.Octets.{blank}
 use Rattle.octets.proofs.OctetLaws.{length-blank}
 use Rattle.address.specs.declared.Order.{Order}
 use Rattle.address.specs.declared.Order.the-variants.{Before, Same, After}
 use Rattle.address.specs.Order.{orderOf, Precedes}
-use Rattle.address.proofs.OrderLaws.{precedes-transitive}
-use Rattle.chains.specs.Lists.{In}
+use Rattle.address.proofs.OrderLaws.{same-equal, equal-same, precedes-transitive}
 use Rattle.chains.specs.Addresses.{Ascending, choose, insert}
 use Rattle.chains.proofs.AddressesLaws.{insert-ascending}
-use Rattle.forward.specs.Rows.{row, seek, putAt, Kept, keepIn}
+use Rattle.forward.specs.Rows.{row, seek, putAt, Kept, keepIn, Rows, Holds, Ordered}
 use Rattle.forward.specs.Answers.{flat}
-use Rattle.forward.proofs.RowsLaws.{seek-end, seek-right, seek-left, keep-full, keep-found, keep-new, keep-over}
+use Rattle.forward.proofs.RowsLaws.{seek-end, seek-right, seek-left, keep-full, keep-at, keep-found, keep-new, keep-over}
 
 -- ---- addresses one after the other
-abbrev Rows : List (List ℕ) → Type 0
-Rows [] = Unit
-Rows (a ∷ l) = (length a ≡ 16) × Rows l
-
 rows-take : (k : ℕ) (l : List (List ℕ)) → Rows l → Rows (take k l)
 rows-take zero l r = tt
 rows-take (suc k) [] r = tt
@@ -98,11 +94,6 @@ rank-before v (a ∷ l) j h = go (orderOf a v) refl j h (λ i. rank-before v l i
     go Same e j k ih = absurd (omega arith)
     go After e j k ih = absurd (omega arith)
 
-at-in : (l : List (List ℕ)) (j : ℕ) → j < length l → In (getD l j []) l
-at-in [] j h = absurd (omega arith)
-at-in (a ∷ l) zero h = inl refl
-at-in (a ∷ l) (suc j) h = inr (at-in l j (omega arith))
-
 rank-after : (v : List ℕ) (l : List (List ℕ)) (j : ℕ) → Ascending l → j < length l → rank v l ≤ j → Precedes (getD l j []) v → ⊥
 unfolding rank
 rank-after v [] j s h k p = omega arith
@@ -111,7 +102,7 @@ rank-after v (a ∷ l) j s h k p = go (orderOf a v) refl j h k p (λ i. rank-aft
     -- what does not come before v has nothing after it that does
     late : (o : Order) → orderOf a v ≡ o → (o ≡ Before → ⊥) → (j : ℕ) → j < suc (length l) → Precedes (getD (a ∷ l) j []) v → ⊥
     late o e d zero h p = d (sym e ∙ p)
-    late o e d (suc j) h p = d (sym e ∙ precedes-transitive a (getD l j []) v (s .0 (getD l j []) (at-in l j (omega arith))) p)
+    late o e d (suc j) h p = d (sym e ∙ precedes-transitive a (getD l j []) v (s .0 (getD l j []) (in-at l j (omega arith))) p)
 
     go : (o : Order) → orderOf a v ≡ o → (j : ℕ) → j < suc (length l) → choose o (suc (rank v l)) 0 0 ≤ j → Precedes (getD (a ∷ l) j []) v
         → ((i : ℕ) → i < length l → rank v l ≤ i → Precedes (getD l i []) v → ⊥) → ⊥
@@ -119,6 +110,15 @@ rank-after v (a ∷ l) j s h k p = go (orderOf a v) refl j h k p (λ i. rank-aft
     go Before e (suc j) h k p ih = ih j (omega arith) (omega arith) p
     go Same e j h k p ih = late Same e (λ q. let z : _≡_ {A = ℕ} 0 1 = cc in omega arith) j h p
     go After e j h k p ih = late After e (λ q. let z : _≡_ {A = ℕ} 0 1 = cc in omega arith) j h p
+
+-- where it stands in an ascending list
+rank-at : (v : List ℕ) (l : List (List ℕ)) (j : ℕ) → Ascending l → j < length l → getD l j [] ≡ v → rank v l ≡ j
+unfolding rank
+rank-at v [] j s h e = absurd (omega arith)
+rank-at v (a ∷ l) zero s h e = rw (equal-same a v e)
+rank-at v (a ∷ l) (suc j) s h e =
+    let p : Precedes a v = subst (Precedes a) e (s .0 (getD l j []) (in-at l j (omega arith))) in
+    rw p (ap suc (rank-at v l j (s .1) (omega arith) e))
 
 module _ (v : List ℕ) (l : List (List ℕ)) (z : List ℕ) (r : Rows l) (s : Ascending l) where
   -- halving comes to it
@@ -214,13 +214,6 @@ module _ (v : List ℕ) (l : List (List ℕ)) (y z : List ℕ) (k : ℕ) (r : Ro
       ∙ ap (λ (x : List ℕ). x ++ z) (append-assoc (flat (take k l)) v (flat (drop k l)) ∙ sym flat-cons)
 
 -- ---- what is kept
--- the list l stands in the rows, of which there are `room`, or is longer than that
-pub record Holds (room : ℕ) (l : List (List ℕ)) (s : Kept) : Type 0 where
-  pub rows : Rows l
-  pub ascending : Ascending l
-  pub stands : ((s .full ≡ false) × (s .count ≡ length l) × (length l ≤ room) × (s .out ≡ flat l ++ blank ((room - length l) * 16)))
-      ⊎ ((s .full ≡ true) × (room < length l))
-
 blank-more : (d : ℕ) → 0 < d → blank (d * 16) ≡ blank 16 ++ blank ((d - 1) * 16)
 unfolding blank
 blank-more d h =
@@ -240,22 +233,47 @@ module _ (room : ℕ) (v : List ℕ) (l : List (List ℕ)) (s : Kept) (n : lengt
         sym ((λ i. seek (count i) (out i) v 0 (count i))
         ∙ seek-rank v l rest (h .rows) (h .ascending) (length l) 0 (length l) (omega arith) (rank-within v l) (omega arith) (omega arith))
 
-    same-row : k < length l → row (s .out) k ≡ getD l k []
-    same-row q = ap (λ (o : List ℕ). row o k) out ∙ row-is rest k l (h .rows) q
+    same-row : (j : ℕ) → j < length l → row (s .out) j ≡ getD l j []
+    same-row j q = ap (λ (o : List ℕ). row o j) out ∙ row-is rest j l (h .rows) q
 
     long : length (s .out) ≡ room * 16
     long = ap length out ∙ omega (arith, length-append (flat l) rest, flat-length l (h .rows), length-blank ((room - length l) * 16))
 
+    -- an address that stands in a row is kept already
+    there : (j : ℕ) → j < length l → orderOf (getD l j []) v ≡ Same → s ≡ keepIn v s
+    there j q e =
+        let z : k ≡ j = rank-at v l j (h .ascending) q (same-equal (getD l j []) v e) in
+        keep-found v s k (omega (arith, count)) (ap (λ (i : ℕ). orderOf (row (s .out) i) v) z ∙ ap (λ (a : List ℕ). orderOf a v) (same-row j q) ∙ e) ∙ keep-at v s k lax place
+
+    -- a row before or after it tells where to seek
+    among : (a b : ℕ) → a ≤ k → k ≤ b → b ≤ length l → seek (b - a) (s .out) v a b ≡ seek (s .count) (s .out) v 0 (s .count)
+    among a b p q m =
+        ap (λ (o : List ℕ). seek (b - a) o v a b) out ∙ seek-rank v l rest (h .rows) (h .ascending) (b - a) a b p q m (omega arith) ∙ place
+
+    above : (j : ℕ) → j < length l → orderOf (getD l j []) v ≡ Before → j + 1 ≤ k
+    above j q e = go (decLt j k)
+      where
+        go : Dec (j < k) → j + 1 ≤ k
+        go (yes m) = omega arith
+        go (no m) = absurd (rank-after v l j (h .ascending) q (omega (arith, m)) e)
+
+    below : (j : ℕ) → orderOf (getD l j []) v ≡ After → k ≤ j
+    below j e = go (decLt j k)
+      where
+        go : Dec (j < k) → k ≤ j
+        go (yes m) = absurd (let z : _≡_ {A = ℕ} 0 1 = cc (e, rank-before v l j m) in omega arith)
+        go (no m) = omega (arith, m)
+
     found : k < length l → orderOf (getD l k []) v ≡ Same → Holds room (insert v l) (keepIn v s)
     found q e =
-        let w : s ≡ keepIn v s = keep-found v s k lax place (omega (arith, count)) (ap (λ (a : List ℕ). orderOf a v) (same-row q) ∙ e) in
+        let w : s ≡ keepIn v s = keep-found v s k (omega (arith, count)) (ap (λ (a : List ℕ). orderOf a v) (same-row k q) ∙ e) ∙ keep-at v s k lax place in
         subst (λ (t : Kept). Holds room (insert v l) t) w (subst (λ (m : List (List ℕ)). Holds room m s) (sym (insert-found v l q e)) h)
 
     module _ (m : k < length l → orderOf (getD l k []) v ≡ Same → ⊥) where
       absent : k < s .count → orderOf (row (s .out) k) v ≡ Same → ⊥
       absent q e =
           let q′ : k < length l = omega (arith, count) in
-          m q′ (sym (ap (λ (a : List ℕ). orderOf a v) (same-row q′)) ∙ e)
+          m q′ (sym (ap (λ (a : List ℕ). orderOf a v) (same-row k q′)) ∙ e)
 
       longer : length (insert v l) ≡ suc (length l)
       longer =
@@ -267,7 +285,7 @@ module _ (room : ℕ) (v : List ℕ) (l : List (List ℕ)) (s : Kept) (n : lengt
           let d = room - length l in
           let e : room - length (insert v l) ≡ d - 1 = omega (arith, longer) in
           let w : record { out = putAt (k * 16) (s .count * 16) v (s .out); count = s .count + 1; full = false } ≡ keepIn v s =
-          keep-new v s k lax place absent (omega (arith, long, count)) in
+          keep-new v s k absent (omega (arith, long, count)) ∙ keep-at v s k lax place in
           let o : putAt (k * 16) (s .count * 16) v (s .out) ≡ flat (insert v l) ++ blank ((room - length (insert v l)) * 16) =
           (λ i. putAt (k * 16) (count i * 16) v ((out ∙ ap (λ (x : List ℕ). flat l ++ x) (blank-more d (omega arith))) i))
           ∙ put-flat v l (blank 16) (blank ((d - 1) * 16)) k (h .rows) (length-blank 16) (rank-within v l)
@@ -280,7 +298,7 @@ module _ (room : ℕ) (v : List ℕ) (l : List (List ℕ)) (s : Kept) (n : lengt
 
       over : room ≤ length l → Holds room (insert v l) (keepIn v s)
       over q =
-          let w : record { out = s .out; count = s .count; full = true } ≡ keepIn v s = keep-over v s k lax place absent (omega (arith, long, count)) in
+          let w : record { out = s .out; count = s .count; full = true } ≡ keepIn v s = keep-over v s k absent (omega (arith, long, count)) ∙ keep-at v s k lax place in
           subst (λ (t : Kept). Holds room (insert v l) t) w record {
             rows = insert-rows v l n (h .rows);
             ascending = insert-ascending v l (h .ascending);
@@ -311,3 +329,37 @@ module _ (room : ℕ) (v : List ℕ) (l : List (List ℕ)) (s : Kept) (n : lengt
         stands = inr (w .0, omega (arith, w .1, insert-length v l .0));
       })
       (h .stands)
+
+-- what is kept stays in order
+pub keep-ordered : (v : List ℕ) (s : Kept) → length v ≡ 16 → Ordered s → Ordered (keepIn v s)
+keep-ordered v s n o = record { room = o .room; list = insert v (o .list); holds = keep-holds (o .room) v (o .list) s n (o .holds) }
+
+-- what one of the rows tells of an address
+module _ (v : List ℕ) (s : Kept) (n : length v ≡ 16) (o : Ordered s) (lax : s .full ≡ false) where
+  abbrev l : List (List ℕ)
+  l = o .list
+
+  held : (s .count ≡ length l) × (length l ≤ o .room) × (s .out ≡ flat l ++ blank ((o .room - length l) * 16))
+  held = ⊎-elim (λ w. (w .1, w .2, w .3)) (λ w. absurd (let z : _≡_ {A = ℕ} 0 1 = cc (lax, w .0) in omega arith)) (o .holds .stands)
+
+  module _ (j : ℕ) (h : j < s .count) where
+    inside : j < length l
+    inside = omega (arith, held .0)
+
+    listed : (e : Order) → orderOf (row (s .out) j) v ≡ e → orderOf (getD l j []) v ≡ e
+    listed e p = ap (λ (a : List ℕ). orderOf a v) (sym (same-row (o .room) v l s n (o .holds) lax (held .0) (held .1) (held .2) j inside)) ∙ p
+
+    -- it is the address: there is nothing to keep
+    pub keep-met : orderOf (row (s .out) j) v ≡ Same → s ≡ keepIn v s
+    keep-met e = there (o .room) v l s n (o .holds) lax (held .0) (held .1) (held .2) j inside (listed Same e)
+
+    -- it comes before the address, or after it
+    pub seek-above : orderOf (row (s .out) j) v ≡ Before → seek (s .count - (j + 1)) (s .out) v (j + 1) (s .count) ≡ seek (s .count) (s .out) v 0 (s .count)
+    seek-above e =
+        among (o .room) v l s n (o .holds) lax (held .0) (held .1) (held .2) (j + 1) (s .count)
+        (above (o .room) v l s n (o .holds) lax (held .0) (held .1) (held .2) j inside (listed Before e)) (omega (arith, held .0, rank-within v l)) (omega (arith, held .0))
+
+    pub seek-below : orderOf (row (s .out) j) v ≡ After → seek (j - 0) (s .out) v 0 j ≡ seek (s .count) (s .out) v 0 (s .count)
+    seek-below e =
+        among (o .room) v l s n (o .holds) lax (held .0) (held .1) (held .2) 0 j (omega arith)
+        (below (o .room) v l s n (o .holds) lax (held .0) (held .1) (held .2) j (listed After e)) (omega (arith, inside))

@@ -8,11 +8,12 @@ use lib.Dec.{eqb}
 use lib.ListN.{length, getD, set, length-set, getD-replicate}
 use lib.Seq.{set-set, set-getD, getD-set-same, getD-set-other, ext-getD}
 use borrow.Author.Tests.{eq-eqb, ne-eqb}
+use Rattle.octets.proofs.BoolLaws.{clash}
 use Rattle.octets.specs.Octets.{blank}
 use Rattle.octets.proofs.OctetLaws.{length-blank}
 use Rattle.chains.specs.Lists.{pick}
 use Rattle.forward.specs.Links.{lists, First, Last, Linked, table, marksOf}
-use Rattle.forward.proofs.NodeLaws.{clash, below?, same?, next-is, prev-is, before-is, head-is, after-is, tail-is, Without, first-keep, last-keep, first-skip, last-skip}
+use Rattle.forward.proofs.NodeLaws.{below?, same?, next-is, prev-is, before-is, head-is, after-is, tail-is, Without, first-keep, last-keep, first-skip, last-skip}
 
 -- ---- what a list holds
 module _ (owners u : List ℕ) (x m : ℕ) where

@@ -1,5 +1,5 @@
 -- Lookup by names is the search by numbers: the arrays that the search reads are the table's records, renamed. Assumes nothing.
-use Prim.Native.Nat.{ℕ, zero, suc, _-_, _*_, _/_, _%_, _≤_, _<_}
+use Prim.Native.Nat.{ℕ, zero, suc, _-_, _/_, _%_, _≤_, _<_}
 use mathlib.Core.Path.{_≡_, refl, ap, _∙_, sym}
 use mathlib.Core.Bool.{Bool, true, false, _&&_}
 use mathlib.Core.List.{List, []}
@@ -23,7 +23,7 @@ use Rattle.chains.specs.Listing.{workOf}
 use Rattle.chains.specs.Addresses.{addressesOf}
 use Rattle.chains.specs.Renaming.{Alike, Renamed}
 use Rattle.chains.proofs.RenamingLaws.{renaming}
-use Rattle.plan.specs.Layout.{maxRecords, isA6, countOf, recordAt, prefixAt}
+use Rattle.plan.specs.Layout.{isA6, countOf, recordAt, prefixAt}
 use Rattle.plan.specs.Check.{checkOf, InOrder}
 use Rattle.plan.proofs.OrderLaws.{order-count, order-good}
 use Rattle.plan.proofs.FaultLaws.{targetless-on}
@@ -34,7 +34,7 @@ use Rattle.numbering.proofs.NumberLaws.{number-most}
 use Rattle.numbering.proofs.NamesLaws.{own-listed, target-listed, number-standard}
 use Rattle.numbering.proofs.OrderLaws.{names-fit}
 use Rattle.numbering.proofs.GraphLaws.{lookup-renamed}
-use Rattle.forward.specs.Gather.{noOwner, Rows}
+use Rattle.forward.specs.Gather.{noOwner, Halved}
 use Rattle.forward.specs.Search.{Records, records}
 use Rattle.forward.specs.Search as search′
 use Rattle.forward.specs.Links.{maxNames, Numbered}
@@ -58,17 +58,16 @@ module _ {N M : Type 0} (g : Graph N) (h : Graph M) (x : N) (y : M) (w : workOf 
   output-like (suc k) size = refl
 
 -- what the arrays hold once they are filled
-pub record Filled (t owners targets lengths addresses : List ℕ) : Type 0 where
+pub record Filled (t owners targets lengths highs lows : List ℕ) : Type 0 where
   pub owner : (i : ℕ) → i < countOf t → getD owners i 0 ≡ pick (isA6 (recordAt t i)) (ownNumber t i) noOwner
   pub target : (i : ℕ) → i < countOf t → getD targets i 0 ≡ targetNumber t i
   pub len : (i : ℕ) → i < countOf t → getD lengths i 0 ≡ prefixAt t i
-  pub rows : Rows t addresses (countOf t)
+  pub halved : Halved t highs lows (countOf t)
   pub owners-long : countOf t ≤ length owners
-  pub octets : length addresses ≡ maxRecords * 16
 
-module _ (t owners targets lengths addresses : List ℕ) (o : InOrder t) (f : Filled t owners targets lengths addresses) where
+module _ (t owners targets lengths highs lows : List ℕ) (o : InOrder t) (f : Filled t owners targets lengths highs lows) where
   abbrev read : Records
-  read = records (take (countOf t) owners) targets lengths addresses
+  read = records (take (countOf t) owners) targets lengths highs lows
 
   read-size : length (take (countOf t) owners) ≡ countOf t
   read-size = length-take-le (countOf t) owners (f .owners-long)
@@ -97,7 +96,6 @@ module _ (t owners targets lengths addresses : List ℕ) (o : InOrder t) (f : Fi
         let q : 0 < prefixAt t j = rw (f .len j k) at p in
         rw (f .target j k) (let l = target-small j k q in omega arith);
     short = λ j h. let k : j < countOf t = rw read-size at h in rw (f .len j k) (order-good t o j k .prefix);
-    octets = f .octets;
   }
 
   -- a number that a name can have owns the same records
@@ -113,7 +111,7 @@ module _ (t owners targets lengths addresses : List ℕ) (o : InOrder t) (f : Fi
   read-renamed = record {
     sizes = sym read-size;
     lengths = λ i h. sym (f .len i h);
-    addresses = λ i h. sym (f .rows .row i h);
+    addresses = λ i h. sym (f .halved .address i h);
     targets = λ i h p. rw (f .target i h) (read-alike (targetNumber t i) (target-small i h p));
   }
 

@@ -1,13 +1,11 @@
 -- First and last positions of a predicate, and what taking one position out of it changes. Assumes nothing.
 use Prim.Native.Nat.{ℕ, suc, _≤_, _<_}
-use mathlib.Core.Path.{_≡_, sym, ap, _∙_}
+use mathlib.Core.Path.{_≡_, ap, _∙_}
 use mathlib.Core.Bool.{Bool, true, false}
 use native.Mathlib.Decide.{ℕ-discrete, decLt}
 use native.Mathlib.Omega.{arith}
+use Rattle.octets.proofs.BoolLaws.{clash}
 use Rattle.forward.specs.Links.{First, Last}
-
-pub clash : {b : Bool} → b ≡ true → b ≡ false → ⊥
-clash p q = let v : _≡_ {A = Bool} true false = sym p ∙ q in let z : _≡_ {A = ℕ} 0 1 = cc in omega arith
 
 pub below? : {C : Type 0} (a b : ℕ) → (a < b → C) → (b ≤ a → C) → C
 below? {C} a b f h = go (decLt a b)

@@ -11,13 +11,14 @@ use lib.Seq.{drop-cons, drop-drop, getD-take, getD-set-same, getD-set-other, tak
 use types.Run.{OneOf}
 use denote.Enum.Declared.{tagOf}
 use Rattle.address.proofs.Order.{the-type}
-use borrow.Author.Tests.{lt-ltb, le-ltb, ltb-true, le-leb, lt-leb, eq-eqb, ne-eqb}
+use borrow.Author.Tests.{lt-ltb, le-ltb, ltb-true, le-leb, lt-leb}
 use Rattle.address.specs.declared.Order.{Order}
 use Rattle.address.specs.declared.Order.the-variants.{Before, Same, After}
 use Rattle.address.specs.Order.{orderOf}
-use Rattle.forward.specs.Halves.{octetsOf, addressOf}
-use Rattle.forward.specs.Rows.{row, seek, moved, putAt, Kept, kept, isSame, keepAt, keepIn}
-use Rattle.forward.proofs.HalvesLaws.{octets-length}
+use Rattle.octets.specs.Numbers.{octetsOf}
+use Rattle.octets.proofs.NumberLaws.{octets-length}
+use Rattle.forward.specs.Halves.{addressOf}
+use Rattle.forward.specs.Rows.{row, seek, moved, putAt, Kept, maxFigures, kept, isSame, keepAt, keepIn}
 
 -- ---- seeking
 pub seek-end : (most : ℕ) (out v : List ℕ) (a b : ℕ) → b ≤ a → seek most out v a b ≡ a
@@ -48,32 +49,32 @@ not-before o k e = ⊎-elim (λ q. omega arith) (λ q. omega arith) (subst (λ (
 pub not-same : (o : Order) → OneOf (0 ∷ 2 ∷ []) (tagOf the-type o) → o ≡ Same → ⊥
 not-same o k e = ⊎-elim (λ q. omega arith) (λ q. omega arith) (subst (λ (v : Order). OneOf (0 ∷ 2 ∷ []) (tagOf the-type v)) e k)
 
--- what is left to seek, from a to b, comes to what all of it comes to
-pub record Seeking (out v : List ℕ) (count a b : ℕ) : Type 0 where
+-- what is left to seek, from a to b, comes to what all of it comes to, r
+pub record Seeking (out v : List ℕ) (r a b : ℕ) : Type 0 where
   pub most : ℕ
   pub enough : b - a ≤ most
-  pub comes : seek most out v a b ≡ seek count out v 0 count
+  pub comes : seek most out v a b ≡ r
 
-module _ (out v : List ℕ) (count : ℕ) where
-  pub seeking-start : Seeking out v count 0 count
-  seeking-start = record { most = count; enough = omega arith; comes = refl }
+pub seeking-start : (out v : List ℕ) (a b : ℕ) → Seeking out v (seek (b - a) out v a b) a b
+seeking-start out v a b = record { most = b - a; enough = omega arith; comes = refl }
 
-  pub seeking-end : (a b : ℕ) → b ≤ a → Seeking out v count a b → a ≡ seek count out v 0 count
+module _ (out v : List ℕ) (r : ℕ) where
+  pub seeking-end : (a b : ℕ) → b ≤ a → Seeking out v r a b → a ≡ r
   seeking-end a b h s = sym (seek-end (s .most) out v a b h) ∙ s .comes
 
-  module _ (a b : ℕ) (h : a < b) (s : Seeking out v count a b) where
+  module _ (a b : ℕ) (h : a < b) (s : Seeking out v r a b) where
     abbrev less : ℕ
     less = s .most - 1
 
-    whole : seek (suc less) out v a b ≡ seek count out v 0 count
+    whole : seek (suc less) out v a b ≡ r
     whole =
         let e : suc less ≡ s .most = let q = s .enough in omega arith in
         ap (λ (n : ℕ). seek n out v a b) e ∙ s .comes
 
-    pub seeking-right : orderOf (row out ((a + b) / 2)) v ≡ Before → Seeking out v count ((a + b) / 2 + 1) b
+    pub seeking-right : orderOf (row out ((a + b) / 2)) v ≡ Before → Seeking out v r ((a + b) / 2 + 1) b
     seeking-right e = record { most = less; enough = let q = s .enough in omega arith; comes = sym (seek-right less out v a b h e) ∙ whole }
 
-    pub seeking-left : (orderOf (row out ((a + b) / 2)) v ≡ Before → ⊥) → Seeking out v count a ((a + b) / 2)
+    pub seeking-left : (orderOf (row out ((a + b) / 2)) v ≡ Before → ⊥) → Seeking out v r a ((a + b) / 2)
     seeking-left n = record { most = less; enough = let q = s .enough in omega arith; comes = sym (seek-left less out v a b h n) ∙ whole }
 
 -- ---- octets moved up by sixteen, one at a time from the last
@@ -162,14 +163,14 @@ module _ (v : List ℕ) (s : Kept) where
   unfolding keepIn
   keep-full h = rw h
 
-  module _ (k : ℕ) (h : s .full ≡ false) (e : k ≡ seek (s .count) (s .out) v 0 (s .count)) where
-    at-k : keepAt k v s ≡ keepIn v s
-    unfolding keepIn
-    at-k = rw (h, ← e)
+  pub keep-at : (k : ℕ) → s .full ≡ false → k ≡ seek (s .count) (s .out) v 0 (s .count) → keepAt k v s ≡ keepIn v s
+  unfolding keepIn
+  keep-at k h e = rw (h, ← e)
 
-    pub keep-found : k < s .count → orderOf (row (s .out) k) v ≡ Same → s ≡ keepIn v s
+  module _ (k : ℕ) where
+    pub keep-found : k < s .count → orderOf (row (s .out) k) v ≡ Same → s ≡ keepAt k v s
     unfolding keepAt
-    keep-found l m = rw (← at-k, lt-ltb k (s .count) l, m)
+    keep-found l m = rw (lt-ltb k (s .count) l, m)
 
     absent : (k < s .count → orderOf (row (s .out) k) v ≡ Same → ⊥) → ltb k (s .count) && isSame (orderOf (row (s .out) k) v) ≡ false
     absent n = go (ltb k (s .count)) refl
@@ -185,39 +186,38 @@ module _ (v : List ℕ) (s : Kept) where
 
     module _ (n : k < s .count → orderOf (row (s .out) k) v ≡ Same → ⊥) where
       pub keep-new : s .count * 16 + 16 ≤ length (s .out)
-          → record { out = putAt (k * 16) (s .count * 16) v (s .out); count = s .count + 1; full = false } ≡ keepIn v s
+          → record { out = putAt (k * 16) (s .count * 16) v (s .out); count = s .count + 1; full = false } ≡ keepAt k v s
       unfolding keepAt
-      keep-new l = rw (← at-k, absent n, le-leb (s .count * 16 + 16) (length (s .out)) l)
+      keep-new l = rw (absent n, le-leb (s .count * 16 + 16) (length (s .out)) l)
 
-      pub keep-over : length (s .out) < s .count * 16 + 16 → record { out = s .out; count = s .count; full = true } ≡ keepIn v s
+      pub keep-over : length (s .out) < s .count * 16 + 16 → record { out = s .out; count = s .count; full = true } ≡ keepAt k v s
       unfolding keepAt
-      keep-over l = rw (← at-k, absent n, lt-leb (s .count * 16 + 16) (length (s .out)) l)
+      keep-over l = rw (absent n, lt-leb (s .count * 16 + 16) (length (s .out)) l)
+
+-- a hint changes nothing of what is kept
+pub kept-hint : (out figures : List ℕ) (spot k : ℕ) → 2 ≤ spot → kept out (set figures spot k) ≡ kept out figures
+kept-hint out figures spot k h =
+    λ i. record {
+      out = out;
+      count = getD-set-other figures spot 0 k 0 (λ z. omega arith) i;
+      full = eqb (getD-set-other figures spot 1 k 0 (λ z. omega arith) i) 1;
+    }
 
 -- and the figures as the code has them
-module _ (v out figures : List ℕ) (two : length figures ≡ 2) where
+module _ (v out figures : List ℕ) (places : length figures ≡ maxFigures) where
   abbrev count : ℕ
   count = getD figures 0 0
 
-  pub kept-full : getD figures 1 0 ≡ 1 → kept out figures ≡ keepIn v (kept out figures)
-  kept-full h = keep-full v (kept out figures) (eq-eqb (getD figures 1 0) 1 h)
+  module _ (k : ℕ) (h : eqb (getD figures 1 0) 1 ≡ false) (n : k < count → orderOf (row out k) v ≡ Same → ⊥) where
+    pub kept-new : count * 16 + 16 ≤ length out → (out′ : List ℕ) → out′ ≡ putAt (k * 16) (count * 16) v out → kept out′ (set figures 0 (count + 1)) ≡ keepAt k v (kept out figures)
+    kept-new l out′ q =
+        let c = getD-set-same figures 0 (count + 1) 0 (omega arith) in
+        let f : eqb (getD (set figures 0 (count + 1)) 1 0) 1 ≡ false =
+        ap (λ (b : ℕ). eqb b 1) (getD-set-other figures 0 1 (count + 1) 0 (λ z. omega arith)) ∙ h in
+        (λ i. record { out = q i; count = c i; full = f i }) ∙ keep-new v (kept out figures) k n l
 
-  module _ (k : ℕ) (h : getD figures 1 0 ≡ 1 → ⊥) (e : k ≡ seek count out v 0 count) where
-    open-still : eqb (getD figures 1 0) 1 ≡ false
-    open-still = ne-eqb (getD figures 1 0) 1 h
-
-    pub kept-found : k < count → orderOf (row out k) v ≡ Same → kept out figures ≡ keepIn v (kept out figures)
-    kept-found l m = keep-found v (kept out figures) k open-still e l m
-
-    module _ (n : k < count → orderOf (row out k) v ≡ Same → ⊥) where
-      pub kept-new : count * 16 + 16 ≤ length out → (out′ : List ℕ) → out′ ≡ putAt (k * 16) (count * 16) v out → kept out′ (set figures 0 (count + 1)) ≡ keepIn v (kept out figures)
-      kept-new l out′ q =
-          let c = getD-set-same figures 0 (count + 1) 0 (omega arith) in
-          let f : eqb (getD (set figures 0 (count + 1)) 1 0) 1 ≡ false =
-          ap (λ (b : ℕ). eqb b 1) (getD-set-other figures 0 1 (count + 1) 0 (λ z. omega arith)) ∙ open-still in
-          (λ i. record { out = q i; count = c i; full = f i }) ∙ keep-new v (kept out figures) k open-still e n l
-
-      pub kept-over : length out < count * 16 + 16 → kept out (set figures 1 1) ≡ keepIn v (kept out figures)
-      kept-over l =
-          let c = getD-set-other figures 1 0 1 0 (λ z. omega arith) in
-          let f : eqb (getD (set figures 1 1) 1 0) 1 ≡ true = ap (λ (b : ℕ). eqb b 1) (getD-set-same figures 1 1 0 (omega arith)) in
-          (λ i. record { out = out; count = c i; full = f i }) ∙ keep-over v (kept out figures) k open-still e n l
+    pub kept-over : length out < count * 16 + 16 → kept out (set figures 1 1) ≡ keepAt k v (kept out figures)
+    kept-over l =
+        let c = getD-set-other figures 1 0 1 0 (λ z. omega arith) in
+        let f : eqb (getD (set figures 1 1) 1 0) 1 ≡ true = ap (λ (b : ℕ). eqb b 1) (getD-set-same figures 1 1 0 (omega arith)) in
+        (λ i. record { out = out; count = c i; full = f i }) ∙ keep-over v (kept out figures) k n l

@@ -1,21 +1,22 @@
 -- Laws of a search as a fold over chains: what a step gives, and what the records before a place give. Assumes nothing.
 use Prim.Native.Nat.{ℕ, zero, suc, _+_, _-_, _≤_, _<_}
 use mathlib.Core.Path.{_≡_, refl, sym, ap, subst, _∙_}
-use mathlib.Core.Bool.{true, false}
+use mathlib.Core.Bool.{Bool, true, false}
 use mathlib.Core.List.{List, [], _∷_, _++_, map}
 use native.Mathlib.Nat.{add-zero}
 use native.Mathlib.Omega.{arith}
-use lib.Dec.{eqb}
+use lib.Dec.{leb, eqb}
 use lib.ListN.{length, getD, set}
 use borrow.Author.Tests.{le-leb, lt-leb, eq-eqb, ne-eqb}
 use Rattle.address.specs.Address.{joinOf}
+use Rattle.address.proofs.AddressLaws.{join-length}
 use Rattle.chains.specs.Lists.{pick, upTo}
 use Rattle.chains.specs.Graph.{Graph}
 use Rattle.chains.specs.Chain.{lastLength}
 use Rattle.chains.specs.Listing.{free, fits, extend, paths, chainsFrom}
 use Rattle.chains.specs.Addresses.{spell}
 use Rattle.chains.proofs.ListingLaws.{free-mark, extend-end, extend-on}
-use Rattle.forward.specs.Rows.{keepIn}
+use Rattle.forward.specs.Rows.{Kept, keepIn}
 use Rattle.forward.specs.Search.{State, visit, run, searched, stepped}
 
 -- the same state, counted once more
@@ -54,6 +55,23 @@ module _ {N : Type 0} (g : Graph N) (limit : ℕ) where
   unfolding run visit spell lastLength
   run-map i b a s [] = refl
   run-map i b a s (p ∷ ps) = run-map i b a (visit g limit b a s (i ∷ p)) ps
+
+  -- what the keeping of an address leaves true stays true
+  module _ (P : Kept → Type 0) (sixteen : (i : ℕ) → length (g .addr i) ≡ 16) (keeps : (v : List ℕ) (k : Kept) → length v ≡ 16 → P k → P (keepIn v k)) where
+    spell-length : (b : ℕ) (a p : List ℕ) → length a ≡ 16 → length (spell g b a p) ≡ 16
+    unfolding spell
+    spell-length b a [] n = n
+    spell-length b a (i ∷ p) n = spell-length (g .len i) (joinOf (g .addr i) a b) p (join-length (g .addr i) a b (sixteen i) n)
+
+    run-keeps : (b : ℕ) (a : List ℕ) → length a ≡ 16 → (s : State) (ps : List (List ℕ)) → P (s .1) → P (run g limit b a s ps .1)
+    unfolding run visit
+    run-keeps b a n s [] h = h
+    run-keeps b a n s (p ∷ ps) h = run-keeps b a n (visit g limit b a s p) ps (go (leb (s .0) limit) (eqb (lastLength g b p) 0))
+      where
+        go : (t e : Bool) → P ((pick t (s .0 + 1, pick e (keepIn (spell g b a p) (s .1)) (s .1)) s) .1)
+        go true true = keeps (spell g b a p) (s .1) (spell-length b a p n) h
+        go true false = h
+        go false e = h
 
   -- ---- into one record
   module _ (u : List ℕ) (i b : ℕ) (a : List ℕ) (s : State) (w : s .0 ≤ limit) where
@@ -106,6 +124,11 @@ module _ {N : Type 0} (g : Graph N) (limit : ℕ) where
       pub to-step : fits g u x b i ≡ true → searchedTo u x b a s (suc i) ≡ stepped g limit u i b a (searchedTo u x b a s i)
       unfolding turn stepped
       to-step h = more ∙ rw h refl
+
+    -- what the keeping of an address leaves true stays true
+    pub to-keeps : (P : Kept → Type 0) → ((i : ℕ) → length (g .addr i) ≡ 16) → ((v : List ℕ) (k : Kept) → length v ≡ 16 → P k → P (keepIn v k)) → length a ≡ 16 → P (s .1) → (i : ℕ) → P (searchedTo u x b a s i .1)
+    unfolding searchedTo
+    to-keeps P sixteen keeps n h i = run-keeps P sixteen keeps b a n s (upTo i (turn u x b)) h
 
     to-over-by : (d i : ℕ) → limit < searchedTo u x b a s i .0 → searchedTo u x b a s (i + d) ≡ searchedTo u x b a s i
     to-over-by zero i h = ap (searchedTo u x b a s) (add-zero i)

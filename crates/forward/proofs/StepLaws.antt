@@ -3,11 +3,12 @@ use Prim.Native.Nat.{ℕ, suc, _+_, _*_, _≤_, _<_}
 use mathlib.Core.Path.{_≡_, refl, sym, ap, subst, _∙_}
 use mathlib.Core.List.{List}
 use native.Mathlib.Omega.{arith}
-use lib.ListN.{length, getD, set, length-set, take, drop}
+use lib.ListN.{length, getD, set, length-set}
 use Rattle.address.specs.Address.{joinOf}
 use Rattle.chains.specs.Listing.{free}
 use Rattle.chains.proofs.ListingLaws.{free-mark}
-use Rattle.forward.specs.Rows.{kept, keepIn}
+use Rattle.forward.specs.Halves.{addressOf}
+use Rattle.forward.specs.Rows.{maxFigures, kept, keepIn}
 use Rattle.forward.specs.Search.{Records, graphOf, State, searched}
 use Rattle.forward.specs.Links.{Linked, maxNodes, maxNames, Memory, memory, stateOf, unusedOf, searchOf, stepOf, Fit, Done}
 use Rattle.forward.proofs.LinkLaws.{prev-node, next-node, marks-out, unlinked-marks, relinked-next, relinked-prev}
@@ -16,14 +17,14 @@ use Rattle.forward.proofs.GoingLaws.{memory-eq, going-start, going-end}
 
 module _ (r : Records) (m : Memory) (bound limit i : ℕ) (f : Fit r m bound limit) (li : i < length (r .owners)) (ui : getD (unusedOf r m) i 0 ≡ 0) where
   -- ---- into a finished record
-  pub done-finished : (a v out figures : List ℕ) → m .work ≤ limit → getD (r .lengths) i 0 ≡ 0 → v ≡ joinOf (take 16 (drop (i * 16) (r .addresses))) a bound
-      → kept out figures ≡ keepIn v (kept (m .out) (m .figures)) → length figures ≡ 2 → getD figures 0 0 * 16 ≤ length (m .out)
+  pub done-finished : (a v out figures : List ℕ) → m .work ≤ limit → getD (r .lengths) i 0 ≡ 0 → v ≡ joinOf (addressOf (getD (r .highs) i 0) (getD (r .lows) i 0)) a bound
+      → kept out figures ≡ keepIn v (kept (m .out) (m .figures)) → length figures ≡ maxFigures → getD figures 0 0 * 16 ≤ length (m .out)
       → Done m (memory (m .next) (m .prev) out figures (m .work + 1)) (stepOf r limit i bound a m)
   done-finished a v out figures w e j k t o = record {
     next = refl;
     prev = refl;
     state = (λ z. (m .work + 1, (k ∙ ap (λ (x : List ℕ). keepIn x (kept (m .out) (m .figures))) j) z)) ∙ sym (stepped-end (graphOf r) limit (unusedOf r m) i bound a (stateOf m) w e);
-    two = t;
+    places = t;
     room = o;
   }
 
@@ -58,8 +59,9 @@ module _ (r : Records) (m : Memory) (bound limit i : ℕ) (f : Fit r m bound lim
         numbered = f .numbered;
         nodes = ap length en ∙ length-set (m .next) p q ∙ f .nodes;
         linked = subst (λ (w : Memory). Linked (r .owners) (unusedOf r w) (w .next) (w .prev)) (sym same) (unlinked-marks (r .owners) (m .next) (m .prev) (f .linked) i li ui);
-        two = f .two;
+        places = f .places;
         room = f .room;
+        ordered = f .ordered;
         some = h;
         bounded = omega (arith, f .bounded);
         limited = f .limited;
@@ -71,7 +73,7 @@ module _ (r : Records) (m : Memory) (bound limit i : ℕ) (f : Fit r m bound lim
       nothing x b a h l n e =
           let g = fit-without b h l in
           going-end r limit x b a without (g .linked) without (getD next (length (r .owners) + x) 0)
-          (going-start r limit x b a without (g .linked) (getD next (length (r .owners) + x) 0) (g .two) (omega (arith, g .nodes, g .numbered .owned .few)) (g .room) refl) e
+          (going-start r limit x b a without (g .linked) (getD next (length (r .owners) + x) 0) (g .places) (omega (arith, g .nodes, g .numbered .owned .few)) (g .room) refl) e
 
       module _ (m′ : Memory) (s : State) (d : Done without m′ s) where
         -- the links are as long as they were
@@ -80,7 +82,7 @@ module _ (r : Records) (m : Memory) (bound limit i : ℕ) (f : Fit r m bound lim
 
         -- afterwards the record is in again
         pub done-unfinished : (a v : List ℕ) (x : ℕ) → m .work ≤ limit → 0 < getD (r .lengths) i 0 → x ≡ getD (r .targets) i 0
-            → v ≡ joinOf (take 16 (drop (i * 16) (r .addresses))) a bound → s ≡ searchOf r limit x (getD (r .lengths) i 0) v without
+            → v ≡ joinOf (addressOf (getD (r .highs) i 0) (getD (r .lows) i 0)) a bound → s ≡ searchOf r limit x (getD (r .lengths) i 0) v without
             → (next″ prev″ : List ℕ) → next″ ≡ set (m′ .next) p i → prev″ ≡ set (m′ .prev) q i
             → Done m (memory next″ prev″ (m′ .out) (m′ .figures) (m′ .work)) (stepOf r limit i bound a m)
         done-unfinished a v x w h t j k next″ prev″ en″ el″ = record {
@@ -91,6 +93,6 @@ module _ (r : Records) (m : Memory) (bound limit i : ℕ) (f : Fit r m bound lim
           state = d .state ∙ k
               ∙ (λ z. searched (graphOf r) limit (marks z) (t z) (getD (r .lengths) i 0) (j z) (stateOf without))
               ∙ sym (stepped-on (graphOf r) limit (unusedOf r m) i bound a (stateOf m) w h (omega (arith, f .linked .marks, li)) ui);
-          two = d .two;
+          places = d .places;
           room = d .room;
         }

@@ -1,10 +1,11 @@
 -- The records of a table in arrays, as the search reads them: the code's own, nothing that a reader must believe. Assumes nothing.
-use Prim.Native.Nat.{ℕ, _*_, _<_}
+use Prim.Native.Nat.{ℕ, _<_}
 use mathlib.Core.Path.{_≡_}
 use mathlib.Core.List.{List}
-use lib.ListN.{getD, take, drop}
+use lib.ListN.{getD}
 use Rattle.chains.specs.Lists.{pick}
 use Rattle.plan.specs.Layout.{isA6, recordAt, addressAt}
+use Rattle.forward.specs.Halves.{addressOf}
 
 -- a number that no name has, for a record that no name owns in the search
 abbrev pub noOwner : ℕ
@@ -14,6 +15,6 @@ noOwner = 2303
 abbrev pub searchOwner : List ℕ → List ℕ → ℕ → ℕ
 searchOwner t owners i = pick (isA6 (recordAt t i)) (getD owners i 0) noOwner
 
--- the first n rows of sixteen octets are the addresses of the records
-pub record Rows (t addresses : List ℕ) (n : ℕ) : Type 0 where
-  pub row : (i : ℕ) → i < n → take 16 (drop (i * 16) addresses) ≡ addressAt t i
+-- the first n pairs of halves are the addresses of the records
+pub record Halved (t highs lows : List ℕ) (n : ℕ) : Type 0 where
+  pub address : (i : ℕ) → i < n → addressOf (getD highs i 0) (getD lows i 0) ≡ addressAt t i

@@ -7,7 +7,7 @@ use lib.Dec.{eqb}
 use lib.ListN.{length, getD}
 use Rattle.octets.specs.Octets.{blank}
 use Rattle.chains.specs.Lists.{pick}
-use Rattle.forward.specs.Rows.{kept}
+use Rattle.forward.specs.Rows.{maxFigures, kept, Ordered}
 use Rattle.forward.specs.Search.{Records, graphOf, State, searched, stepped}
 
 -- how many records, names and nodes there may be
@@ -30,7 +30,6 @@ pub record Numbered (r : Records) : Type 0 where
   pub owned : Owned (r .owners)
   pub target : (j : ℕ) → j < length (r .owners) → 0 < getD (r .lengths) j 0 → getD (r .targets) j 0 < maxNames
   pub short : (j : ℕ) → j < length (r .owners) → getD (r .lengths) j 0 ≤ 128
-  pub octets : length (r .addresses) ≡ maxRecords * 16
 
 -- the record m is unused and one of x
 abbrev pub lists : List ℕ → List ℕ → ℕ → ℕ → Bool
@@ -107,8 +106,9 @@ pub record Fit (r : Records) (m : Memory) (bound limit : ℕ) : Type 0 where
   pub numbered : Numbered r
   pub nodes : length (m .next) ≡ maxNodes
   pub linked : Linked (r .owners) (unusedOf r m) (m .next) (m .prev)
-  pub two : length (m .figures) ≡ 2
+  pub places : length (m .figures) ≡ maxFigures
   pub room : getD (m .figures) 0 0 * 16 ≤ length (m .out)
+  pub ordered : Ordered (kept (m .out) (m .figures))
   pub some : 0 < bound
   pub bounded : bound ≤ 128
   pub limited : limit < 2 ^ 32
@@ -118,5 +118,5 @@ pub record Done (m m′ : Memory) (s : State) : Type 0 where
   pub next : m′ .next ≡ m .next
   pub prev : m′ .prev ≡ m .prev
   pub state : stateOf m′ ≡ s
-  pub two : length (m′ .figures) ≡ 2
+  pub places : length (m′ .figures) ≡ maxFigures
   pub room : getD (m′ .figures) 0 0 * 16 ≤ length (m .out)

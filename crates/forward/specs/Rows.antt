@@ -1,13 +1,18 @@
 -- The output while a search runs: rows of sixteen octets, ascending, each address once. Assumes nothing.
-use Prim.Native.Nat.{ℕ, zero, suc, _+_, _-_, _*_, _/_}
+use Prim.Native.Nat.{ℕ, zero, suc, _+_, _-_, _*_, _/_, _≤_, _<_}
+use mathlib.Core.Path.{_≡_}
+use mathlib.Core.Logic.{_⊎_}
 use mathlib.Core.Bool.{Bool, true, false, _&&_}
-use mathlib.Core.List.{List, _++_}
+use mathlib.Core.List.{List, [], _∷_, _++_}
 use lib.Dec.{leb, ltb, eqb}
 use lib.ListN.{length, getD, take, drop}
+use Rattle.octets.specs.Octets.{blank}
 use Rattle.address.specs.declared.Order.{Order}
 use Rattle.address.specs.declared.Order.the-variants.{Before, Same, After}
 use Rattle.address.specs.Order.{orderOf}
 use Rattle.chains.specs.Lists.{pick}
+use Rattle.chains.specs.Addresses.{Ascending}
+use Rattle.forward.specs.Answers.{flat}
 
 -- the row at k
 abbrev pub row : List ℕ → ℕ → List ℕ
@@ -40,7 +45,14 @@ pub record Kept : Type 0 where
   pub count : ℕ
   pub full : Bool
 
--- as the code holds it, with the count and the mark in two places of an array
+-- how many hints there are, and the figures: the count, the mark, then the hints
+abbrev pub maxHints : ℕ
+maxHints = 256
+
+abbrev pub maxFigures : ℕ
+maxFigures = 2 + maxHints
+
+-- as the code holds it, with the count and the mark in the first two figures; a hint says nothing of what is kept
 abbrev pub kept : List ℕ → List ℕ → Kept
 kept out figures = record { out = out; count = getD figures 0 0; full = eqb (getD figures 1 0) 1 }
 
@@ -60,3 +72,21 @@ keepAt k v s =
 -- v in its place; once there was no room nothing is kept
 unfoldable pub keepIn : List ℕ → Kept → Kept
 keepIn v s = pick (s .full) s (keepAt (seek (s .count) (s .out) v 0 (s .count)) v s)
+
+-- addresses of sixteen octets
+abbrev pub Rows : List (List ℕ) → Type 0
+Rows [] = Unit
+Rows (a ∷ l) = (length a ≡ 16) × Rows l
+
+-- the list l, which ascends, stands in the rows, of which there are `room`, with zeros after it, or is longer than that
+pub record Holds (room : ℕ) (l : List (List ℕ)) (s : Kept) : Type 0 where
+  pub rows : Rows l
+  pub ascending : Ascending l
+  pub stands : ((s .full ≡ false) × (s .count ≡ length l) × (length l ≤ room) × (s .out ≡ flat l ++ blank ((room - length l) * 16)))
+      ⊎ ((s .full ≡ true) × (room < length l))
+
+-- some list does
+pub record Ordered (s : Kept) : Type 0 where
+  pub room : ℕ
+  pub list : List (List ℕ)
+  pub holds : Holds room list s

@@ -1,24 +1,26 @@
 -- What a search does: it visits the chains of a name in their order, counts them, and keeps what the complete ones spell (01, Chains). Assumes nothing.
-use Prim.Native.Nat.{ℕ, _+_, _*_}
+use Prim.Native.Nat.{ℕ, _+_}
 use mathlib.Core.List.{List, [], _∷_}
 use lib.Dec.{leb, eqb}
-use lib.ListN.{length, getD, set, take, drop}
+use lib.ListN.{length, getD, set}
 use Rattle.chains.specs.Lists.{pick}
 use Rattle.chains.specs.Graph.{Graph}
 use Rattle.chains.specs.Chain.{lastLength}
 use Rattle.chains.specs.Listing.{free, extend, paths, chainsFrom}
 use Rattle.chains.specs.Addresses.{spell}
+use Rattle.forward.specs.Halves.{addressOf}
 use Rattle.forward.specs.Rows.{Kept, keepIn}
 
--- the records as arrays have them, with numbers for names: owner, target, prefix length and sixteen address octets of each
+-- the records as arrays have them, with numbers for names: owner, target, prefix length and the two halves of the address of each
 pub record Records : Type 0 where
   pub owners : List ℕ
   pub targets : List ℕ
   pub lengths : List ℕ
-  pub addresses : List ℕ
+  pub highs : List ℕ
+  pub lows : List ℕ
 
-abbrev pub records : List ℕ → List ℕ → List ℕ → List ℕ → Records
-records owners targets lengths addresses = record { owners = owners; targets = targets; lengths = lengths; addresses = addresses }
+abbrev pub records : List ℕ → List ℕ → List ℕ → List ℕ → List ℕ → Records
+records owners targets lengths highs lows = record { owners = owners; targets = targets; lengths = lengths; highs = highs; lows = lows }
 
 -- as a graph
 abbrev pub graphOf : Records → Graph ℕ
@@ -27,7 +29,7 @@ graphOf r = record {
   owns = λ i x. eqb (getD (r .owners) i 0) x;
   target = λ i. getD (r .targets) i 0;
   len = λ i. getD (r .lengths) i 0;
-  addr = λ i. take 16 (drop (i * 16) (r .addresses));
+  addr = λ i. addressOf (getD (r .highs) i 0) (getD (r .lows) i 0);
 }
 
 -- the work, and what is kept

@@ -1,12 +1,12 @@
 // The records of a table in arrays, as the search reads them (specs/Gather).
 ghost use mathlib.Core.Path.{_≡_};
-ghost use Prim.Native.Nat.{_*_, _≤_};
+ghost use Prim.Native.Nat.{_≤_};
 ghost use lib.ListN.{length};
 ghost use Rattle.chains.specs.Lists.{pick};
 ghost use lib.Dec.{eqb};
 ghost use Rattle.plan.specs.Layout.{a6, countOf, prefixAt};
 ghost use Rattle.numbering.specs.Numbers.{filled};
-ghost use Rattle.forward.specs.Gather.{noOwner, searchOwner, Rows};
+ghost use Rattle.forward.specs.Gather.{noOwner, searchOwner, Halved};
 
 // A number that no name has.
 const NO_OWNER: u16 = 2303;
@@ -47,16 +47,17 @@ pub fn set_lengths(table: &[u8], lengths: &mut [u8])
     }
 }
 
-// The addresses, sixteen octets each.
-pub fn set_addresses(table: &[u8], addresses: &mut [u8])
-    requires { ⌜ countOf (now table) * 16 ≤ length (now addresses) ⌝ }
-    ensures { λ _. ⌜ Rows (now (table .entry)) (now (addresses .exit)) (countOf (now (table .entry))) ⌝ }
+// The addresses, two halves each.
+pub fn set_halves(table: &[u8], highs: &mut [u64], lows: &mut [u64])
+    requires { ⌜ (countOf (now table) ≤ length (now highs)) × (countOf (now table) ≤ length (now lows)) ⌝ }
+    ensures { λ _. ⌜ Halved (now (table .entry)) (now (highs .exit)) (now (lows .exit)) (countOf (now (table .entry))) ⌝ }
 {
     let n = plan::inside::count(table);
     let mut i: usize = 0;
     while i < n {
         let address = plan::inside::address(table, i);
-        octets::inside::copy(&address, 0, 16, addresses, i * 16);
+        highs[i] = octets::numbers::half(&address, 0);
+        lows[i] = octets::numbers::half(&address, 8);
         i += 1;
     }
 }

@@ -1,8 +1,8 @@
 // What only our own layers call: the search for the addresses of a numbered name.
 ghost use mathlib.Core.Path.{_≡_};
 ghost use Prim.Native.Nat.{_+_, _*_, _/_, _%_, _^_, _≤_, _<_};
-ghost use lib.ListN.{length, getD, take, drop};
-ghost use Rattle.octets.specs.Octets.{blank, Small};
+ghost use lib.ListN.{length, getD};
+ghost use Rattle.octets.specs.Octets.{blank};
 ghost use Rattle.address.specs.Address.{joinOf};
 ghost use Rattle.forward.specs.Halves.{addressOf};
 ghost use Rattle.forward.specs.Search.{records, graphOf};
@@ -10,22 +10,14 @@ ghost use Rattle.forward.specs.Links.{maxRecords, maxNames, Numbered, me
 ghost use Rattle.forward.specs.Answers.{foundOf, writtenOf};
 use crate::links;
 use crate::rows;
+use crate::rows::FIGURES;
 
-// How many records, names and address octets there may be, and the nodes of their lists (specs/Links).
+// How many records and names there may be, and the nodes of their lists (specs/Links).
 pub const RECORDS: usize = 1024;
 
 pub const NAMES: usize = 2304;
 
-pub const OCTETS: usize = RECORDS * 16;
-
 pub const NODES: usize = RECORDS + NAMES;
-
-// Does nothing. Its contract is what the type of a slice says of the octets, which a proof is not told of a reference to an array.
-fn small(octets: &[u8])
-    ensures { λ _. ⌜ Small (now (octets .entry)) ⌝ }
-{
-    octets::wide(0);
-}
 
 // An address by its first and its last 64 bits.
 struct Halves {
@@ -42,13 +34,19 @@ fn mixed(high: u64, low: u64, k: u8) -> u64
 }
 
 // The record's bits before `bound`, then those of the address so far.
-fn joined(addresses: &[u8], i: usize, high: u64, low: u64, bound: u8) -> Halves
-    requires { ⌜ (length (now addresses) ≡ maxRecords * 16) × (i < maxRecords) ⌝ }
+fn joined(
+    highs: &[u64; RECORDS],
+    lows: &[u64; RECORDS],
+    i: usize,
+    high: u64,
+    low: u64,
+    bound: u8,
+) -> Halves
+    requires { ⌜ i < maxRecords ⌝ }
     requires { ⌜ (0 < bound) × (bound ≤ 128) ⌝ }
-    ensures { λ r. ⌜ addressOf (r .high) (r .low) ≡ joinOf (take 16 (drop (i * 16) (now (addresses .entry)))) (addressOf high low) bound ⌝ }
+    ensures { λ r. ⌜ addressOf (r .high) (r .low) ≡ joinOf (addressOf (getD (now (highs .entry)) i 0) (getD (now (lows .entry)) i 0)) (addressOf high low) bound ⌝ }
 {
-    let at = i * 16;
-    let h = rows::half(addresses, at);
+    let h = highs[i];
     if bound <= 64 {
         return Halves {
             high: mixed(h, high, 64 - bound),
@@ -57,7 +55,7 @@ fn joined(addresses: &[u8], i: usize, high: u64, low: u64, bound: u8) -> Halves
     }
     Halves {
         high: h,
-        low: mixed(rows::half(addresses, at + 8), low, 128 - bound),
+        low: mixed(lows[i], low, 128 - bound),
     }
 }
 
@@ -66,7 +64,8 @@ fn step(
     owners: &[u16],
     targets: &[u16; RECORDS],
     lengths: &[u8; RECORDS],
-    addresses: &[u8; OCTETS],
+    highs: &[u64; RECORDS],
+    lows: &[u64; RECORDS],
     i: usize,
     bound: u8,
     high: u64,
@@ -75,15 +74,15 @@ fn step(
     prev: &mut [u16; NODES],
     limit: u64,
     out: &mut [u8],
-    figures: &mut [usize; 2],
+    figures: &mut [usize; FIGURES],
     work: u64,
 ) -> u64
-    requires { ⌜ Fit (records (now owners) (now targets) (now lengths) (now addresses)) (memory (now next) (now prev) (now out) (now figures) work) bound limit ⌝ }
-    requires { ⌜ (i < length (now owners)) × (getD (unusedOf (records (now owners) (now targets) (now lengths) (now addresses)) (memory (now next) (now prev) (now out) (now figures) work)) i 0 ≡ 0) × (getD (now lengths) i 0 ≤ bound) × (work ≤ limit) ⌝ }
-    ensures { λ r. ⌜ Done (memory (now (next .entry)) (now (prev .entry)) (now (out .entry)) (now (figures .entry)) work) (memory (now (next .exit)) (now (prev .exit)) (now (out .exit)) (now (figures .exit)) r) (stepOf (records (now (owners .entry)) (now (targets .entry)) (now (lengths .entry)) (now (addresses .entry))) limit i bound (addressOf high low) (memory (now (next .entry)) (now (prev .entry)) (now (out .entry)) (now (figures .entry)) work)) ⌝ }
+    requires { ⌜ Fit (records (now owners) (now targets) (now lengths) (now highs) (now lows)) (memory (now next) (now prev) (now out) (now figures) work) bound limit ⌝ }
+    requires { ⌜ (i < length (now owners)) × (getD (unusedOf (records (now owners) (now targets) (now lengths) (now highs) (now lows)) (memory (now next) (now prev) (now out) (now figures) work)) i 0 ≡ 0) × (getD (now lengths) i 0 ≤ bound) × (work ≤ limit) ⌝ }
+    ensures { λ r. ⌜ Done (memory (now (next .entry)) (now (prev .entry)) (now (out .entry)) (now (figures .entry)) work) (memory (now (next .exit)) (now (prev .exit)) (now (out .exit)) (now (figures .exit)) r) (stepOf (records (now (owners .entry)) (now (targets .entry)) (now (lengths .entry)) (now (highs .entry)) (now (lows .entry))) limit i bound (addressOf high low) (memory (now (next .entry)) (now (prev .entry)) (now (out .entry)) (now (figures .entry)) work)) ⌝ }
 {
     let length = lengths[i];
-    let a = joined(addresses, i, high, low, bound);
+    let a = joined(highs, lows, i, high, low, bound);
     let h = a.high;
     let l = a.low;
     let w = work + 1;
@@ -103,7 +102,8 @@ fn step(
             owners,
             targets,
             lengths,
-            addresses,
+            highs,
+            lows,
             x,
             length,
             h,
@@ -125,7 +125,8 @@ fn search(
     owners: &[u16],
     targets: &[u16; RECORDS],
     lengths: &[u8; RECORDS],
-    addresses: &[u8; OCTETS],
+    highs: &[u64; RECORDS],
+    lows: &[u64; RECORDS],
     x: usize,
     bound: u8,
     high: u64,
@@ -134,12 +135,12 @@ fn search(
     prev: &mut [u16; NODES],
     limit: u64,
     out: &mut [u8],
-    figures: &mut [usize; 2],
+    figures: &mut [usize; FIGURES],
     work: u64,
 ) -> u64
-    requires { ⌜ Fit (records (now owners) (now targets) (now lengths) (now addresses)) (memory (now next) (now prev) (now out) (now figures) work) bound limit ⌝ }
+    requires { ⌜ Fit (records (now owners) (now targets) (now lengths) (now highs) (now lows)) (memory (now next) (now prev) (now out) (now figures) work) bound limit ⌝ }
     requires { ⌜ x < maxNames ⌝ }
-    ensures { λ r. ⌜ Done (memory (now (next .entry)) (now (prev .entry)) (now (out .entry)) (now (figures .entry)) work) (memory (now (next .exit)) (now (prev .exit)) (now (out .exit)) (now (figures .exit)) r) (searchOf (records (now (owners .entry)) (now (targets .entry)) (now (lengths .entry)) (now (addresses .entry))) limit x bound (addressOf high low) (memory (now (next .entry)) (now (prev .entry)) (now (out .entry)) (now (figures .entry)) work)) ⌝ }
+    ensures { λ r. ⌜ Done (memory (now (next .entry)) (now (prev .entry)) (now (out .entry)) (now (figures .entry)) work) (memory (now (next .exit)) (now (prev .exit)) (now (out .exit)) (now (figures .exit)) r) (searchOf (records (now (owners .entry)) (now (targets .entry)) (now (lengths .entry)) (now (highs .entry)) (now (lows .entry))) limit x bound (addressOf high low) (memory (now (next .entry)) (now (prev .entry)) (now (out .entry)) (now (figures .entry)) work)) ⌝ }
 {
     let mut s = work;
     let head = owners.len() + x;
@@ -153,7 +154,8 @@ fn search(
                 owners,
                 targets,
                 lengths,
-                addresses,
+                highs,
+                lows,
                 i,
                 bound,
                 high,
@@ -176,27 +178,28 @@ pub fn find(
     owners: &[u16],
     targets: &[u16; RECORDS],
     lengths: &[u8; RECORDS],
-    addresses: &[u8; OCTETS],
+    highs: &[u64; RECORDS],
+    lows: &[u64; RECORDS],
     x: usize,
     limit: u32,
     out: &mut [u8],
 ) -> octets::Answer
-    requires { ⌜ Numbered (records (now owners) (now targets) (now lengths) (now addresses)) × (x < maxNames) ⌝ }
+    requires { ⌜ Numbered (records (now owners) (now targets) (now lengths) (now highs) (now lows)) × (x < maxNames) ⌝ }
     requires { ⌜ (length (now out) % 16 ≡ 0) × (now out ≡ blank (length (now out))) ⌝ }
-    ensures { λ r. ⌜ r ≡ foundOf (graphOf (records (now (owners .entry)) (now (targets .entry)) (now (lengths .entry)) (now (addresses .entry)))) x limit (length (now (out .entry))) ⌝ }
-    ensures { λ _. ⌜ now (out .exit) ≡ writtenOf (graphOf (records (now (owners .entry)) (now (targets .entry)) (now (lengths .entry)) (now (addresses .entry)))) x limit (length (now (out .entry))) ⌝ }
+    ensures { λ r. ⌜ r ≡ foundOf (graphOf (records (now (owners .entry)) (now (targets .entry)) (now (lengths .entry)) (now (highs .entry)) (now (lows .entry)))) x limit (length (now (out .entry))) ⌝ }
+    ensures { λ _. ⌜ now (out .exit) ≡ writtenOf (graphOf (records (now (owners .entry)) (now (targets .entry)) (now (lengths .entry)) (now (highs .entry)) (now (lows .entry)))) x limit (length (now (out .entry))) ⌝ }
 {
-    small(addresses);
     let mut next = [0u16; NODES];
     let mut prev = [0u16; NODES];
     links::link(owners, &mut next, &mut prev);
-    let mut figures = [0usize; 2];
+    let mut figures = [0usize; FIGURES];
     let most = limit as u64;
     let work = search(
         owners,
         targets,
         lengths,
-        addresses,
+        highs,
+        lows,
         x,
         128,
         0,

@@ -45,13 +45,23 @@ fn look(table: &[u8], name: &[u8], limit: u32, out: &mut [u8]) -> octets::Answer
     let mut owners = [0u16; inside::RECORDS];
     let mut targets = [0u16; inside::RECORDS];
     let mut lengths = [0u8; inside::RECORDS];
-    let mut addresses = [0u8; inside::OCTETS];
+    let mut highs = [0u64; inside::RECORDS];
+    let mut lows = [0u64; inside::RECORDS];
     let x = numbering::inside::number(table, name, &mut owners, &mut targets);
     gather::set_owners(table, &mut owners);
     gather::set_lengths(table, &mut lengths);
-    gather::set_addresses(table, &mut addresses);
+    gather::set_halves(table, &mut highs, &mut lows);
     let n = plan::inside::count(table);
-    inside::find(&owners[..n], &targets, &lengths, &addresses, x, limit, out)
+    inside::find(
+        &owners[..n],
+        &targets,
+        &lengths,
+        &highs,
+        &lows,
+        x,
+        limit,
+        out,
+    )
 }
 
 mod gather;

@@ -8,13 +8,14 @@ use lib.Seq.{take-all, paste}
 use native.Mathlib.Omega.{arith}
 use native.Mathlib.Nat.{zero-add}
 use borrow.Author.Tests.{eq-eqb, ne-eqb}
-use Rattle.octets.specs.Octets.{blank}
+use Rattle.octets.specs.Octets.{blank, Small}
 use Rattle.names.specs.Scan.{Reading, refused, done, scanOf, apart, labelsOf, fills, wellFormed}
 use Rattle.names.specs.Standard.{standardOf}
 use Rattle.names.specs.Steps.{scanned}
 use Rattle.octets.specs.Answers.{answering, refusal}
 use Rattle.names.specs.Answers.{standardNumber, standardAnswer, standardOut}
 use Rattle.octets.proofs.OctetLaws.{nil-of-length, drop-blank}
+use Rattle.names.proofs.WriteLaws.{standard-apart}
 
 -- what a scan says of a given name
 module _ (name : List ℕ) where
@@ -46,7 +47,7 @@ module _ (name : List ℕ) where
           let w : ⊥ = omega arith in absurd w
       go (done ls u) e h k = eq-eqb u (length name) k
 
-  pub form-standard : scanned (scanOf name) .standard ≡ true → apart false (labelsOf (scanOf name)) ≡ true
+  form-standard : scanned (scanOf name) .standard ≡ true → apart false (labelsOf (scanOf name)) ≡ true
   unfolding scanned labelsOf
   form-standard h = go (scanOf name) h
     where
@@ -85,5 +86,13 @@ module _ (name : List ℕ) (room : ℕ) where
   done-out e = rw e
 
 -- a copy to the front of zeros
-pub copied : (name out : List ℕ) (n room : ℕ) → n ≡ length name → out ≡ paste (blank room) 0 (drop 0 name) n → out ≡ name ++ blank (room - length name)
+copied : (name out : List ℕ) (n room : ℕ) → n ≡ length name → out ≡ paste (blank room) 0 (drop 0 name) n → out ≡ name ++ blank (room - length name)
 copied name out n room e p = p ∙ rw (zero-add n, e, take-all (length name) name (omega arith), drop-blank (length name) room)
+
+-- the copy of a name that a scan finds in standard form
+pub standard-copied : (name out : List ℕ) (room : ℕ) → Small name → wellFormed name ≡ true → scanned (scanOf name) .standard ≡ true → out ≡ paste (blank room) 0 (drop 0 name) (length name)
+    → (out ≡ standardOf name ++ blank (room - length (standardOf name))) × (length name ≡ length (standardOf name))
+standard-copied name out room s w t p =
+    let e : standardOf name ≡ name = standard-apart name s w (form-standard name t) in
+    let q : name ++ blank (room - length name) ≡ standardOf name ++ blank (room - length (standardOf name)) = rw e in
+    (copied name out (length name) room refl p ∙ q, ap length (sym e))

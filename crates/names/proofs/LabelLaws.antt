@@ -1,7 +1,7 @@
 -- Laws of one label: which test decides, and what holds where none does. Assumes nothing.
 use Prim.Native.Nat.{ℕ, zero, suc, _+_, _-_, _*_, _%_, _^_, _≤_, _<_}
 use mathlib.Core.Path.{_≡_, refl, ap, _∙_}
-use mathlib.Core.Bool.{Bool, true, false, not, _&&_}
+use mathlib.Core.Bool.{true, false, not, _&&_}
 use mathlib.Core.List.{List}
 use lib.Dec.{ltb, eqb}
 use lib.ListN.{length, getD, drop}
@@ -11,8 +11,8 @@ use native.Mathlib.Nat.{add-zero}
 use borrow.Author.Tests.{lt-ltb, le-ltb, eq-eqb, ne-eqb, eqb-false, ltb-false, not-false}
 use Rattle.octets.specs.Bits.{octetsFor}
 use Rattle.names.specs.Labels.{firstOf, isLabel, countFor, countOf, sizeOf, unusedClear, runOf, faultOf}
-use Rattle.octets.specs.Answers.{earns}
 use Rattle.octets.proofs.SmallLaws.{earns-zero}
+use Rattle.octets.proofs.BoolLaws.{and-false}
 use Rattle.names.specs.Reads.{Sound}
 use Rattle.names.specs.Steps.{broken, stepAt, stepFor, stepOf}
 
@@ -46,11 +46,7 @@ pub plain-clear : (xs : List ℕ) → firstOf xs < 64 → (eqb (firstOf xs) 65 &
 plain-clear xs h = rw (ne-eqb (firstOf xs) 65 (λ e. omega arith))
 
 pub bits-clear : (xs : List ℕ) → unusedClear xs ≡ true → (eqb (firstOf xs) 65 && not (unusedClear xs)) ≡ false
-bits-clear xs h = rw h (go (eqb (firstOf xs) 65))
-  where
-    go : (b : Bool) → (b && false) ≡ false
-    go true = refl
-    go false = refl
+bits-clear xs h = rw h (and-false (eqb (firstOf xs) 65))
 
 pub bits-unclear : (xs : List ℕ) → firstOf xs ≡ 65 → unusedClear xs ≡ false → (eqb (firstOf xs) 65 && not (unusedClear xs)) ≡ true
 bits-unclear xs e h = rw (h, eq-eqb (firstOf xs) 65 e)

@@ -1,7 +1,7 @@
 -- Laws of the scan: one for each thing that a turn can meet. Assumes nothing.
 use Prim.Native.Nat.{ℕ, zero, suc, _+_, _-_, _<_}
 use mathlib.Core.Path.{_≡_, refl, ap, _∙_, sym}
-use mathlib.Core.Bool.{Bool, true, false, _&&_}
+use mathlib.Core.Bool.{Bool, true, false}
 use mathlib.Core.List.{List, [], _∷_}
 use lib.Dec.{ltb, eqb}
 use lib.ListN.{length, take, drop}
@@ -9,6 +9,7 @@ use lib.Seq.{drop-drop}
 use native.Mathlib.Omega.{arith}
 use borrow.Author.Tests.{lt-ltb, eq-eqb, ne-eqb, eqb-true, eqb-false}
 use Rattle.octets.specs.Bits.{octetsFor, unpack}
+use Rattle.octets.proofs.BoolLaws.{and-true, and-false}
 use Rattle.names.specs.Labels.{ordinary, bits, firstOf, countOf, sizeOf, runOf, labelOf, faultOf}
 use Rattle.names.specs.Scan.{Reading, refused, done, with, scanFrom}
 use Rattle.names.specs.Steps.{unread, found, finish, stillApart}
@@ -56,14 +57,6 @@ scan-more used run (x ∷ xs) h e f =
     go (suc k) p = let q : suc k - 1 ≡ k = omega arith in rw q
 
 -- the answer's flag follows the runs
-and-false : (b : Bool) → (b && false) ≡ false
-and-false true = refl
-and-false false = refl
-
-and-true : (b : Bool) → (b && true) ≡ b
-and-true true = refl
-and-true false = refl
-
 pub finish-bits : (ok : Bool) (run next : ℕ) (b : List ℕ) (r : Reading) → 0 < next
     → finish ok (ltb 0 run) (with (bits b) r) ≡ finish (stillApart ok run next) (ltb 0 next) r
 unfolding finish with stillApart

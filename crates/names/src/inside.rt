@@ -1,7 +1,14 @@
-// What only our own layers call: pieces of labels.
+// What only our own layers call: pieces of labels, and the standard form of a name that was scanned.
 ghost use mathlib.Core.Path.{_≡_};
-ghost use Prim.Native.Nat.{_≤_};
+ghost use mathlib.Core.Bool.{true};
+ghost use mathlib.Core.List.{_++_};
+ghost use Prim.Native.Nat.{_-_, _≤_};
+ghost use lib.ListN.{length};
+ghost use Rattle.octets.specs.Octets.{blank};
 ghost use Rattle.names.specs.Labels.{countFor};
+ghost use Rattle.names.specs.Scan.{scanOf, wellFormed};
+ghost use Rattle.names.specs.Standard.{standardOf};
+ghost use Rattle.names.specs.Steps.{scanned};
 
 // The bits that a count octet stands for: 256 is written as 0.
 pub fn count(c: u8) -> usize
@@ -11,4 +18,17 @@ pub fn count(c: u8) -> usize
         return 256;
     }
     octets::wide(c)
+}
+
+// The standard form of a well-formed name over zeros, and its length; `standard` is what a scan says of the name.
+pub fn put_standard(name: &[u8], standard: bool, out: &mut [u8]) -> usize
+    requires { ⌜ (wellFormed (now name) ≡ true) × (standard ≡ scanned (scanOf (now name)) .standard) × (now out ≡ blank 255) ⌝ }
+    ensures { λ r. ⌜ (now (out .exit) ≡ standardOf (now (name .entry)) ++ blank (255 - length (standardOf (now (name .entry))))) × (r ≡ length (standardOf (now (name .entry)))) × (r ≤ 255) ⌝ }
+{
+    if standard {
+        let n = name.len();
+        octets::inside::copy(name, 0, n, out, 0);
+        return n;
+    }
+    crate::merge(name, out)
 }

@@ -54,7 +54,8 @@ pub fn standard_form(name: &[u8], out: &mut [u8]) -> octets::Answer
             work: 0,
         };
     }
-    let m = merge(name, out);
+    // Lent on by `[..]` and not by its own name, the slice stays in registers.
+    let m = merge(&name[..], out);
     octets::Answer {
         number: 0,
         count: m as u32,
@@ -274,7 +275,8 @@ fn pack_run(name: &[u8], at: usize, sum: usize, to: usize, out: &mut [u8]) -> Ru
     let n = inside::count(name[at + 1]);
     let a = at + 2;
     let e = a + (n + 7) / 8;
-    let r = pack_run(name, e, sum + n, to, out);
+    // Lent on by `[..]` and not by its own name, the slice stays in registers.
+    let r = pack_run(&name[..], e, sum + n, to, out);
     let end = r.end;
     let p = r.packer;
     let packer = octets::inside::append(name, a, n, out, p);

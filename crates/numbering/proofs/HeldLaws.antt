@@ -10,24 +10,24 @@ use lib.Dec.{eqb}
 use lib.ListN.{length, getD, set, length-append, List·getD-append}
 use lib.Seq.{getD-append-seam, getD-set-same, getD-set-other}
 use borrow.Author.Tests.{eq-eqb, ne-eqb}
-use Rattle.plan.specs.Layout.{ownerAt, targetAt}
-use Rattle.numbering.specs.Buckets.{nameAt, held, lastIn}
+use Rattle.plan.specs.Layout.{ownerSlot, targetSlot, recordAt}
+use Rattle.numbering.specs.Buckets.{slotAt, nameAt, held, lastIn}
 
--- ---- the name at a place
+-- ---- the slot at a place
 module _ (t : List ℕ) (p : ℕ) where
-  pub name-even : p % 2 ≡ 0 → nameAt t p ≡ ownerAt t (p / 2)
-  unfolding nameAt
-  name-even h = rw (nameAt, eq-eqb (p % 2) 0 h)
+  pub slot-even : p % 2 ≡ 0 → slotAt t p ≡ ownerSlot (recordAt t (p / 2))
+  unfolding slotAt
+  slot-even h = rw (slotAt, eq-eqb (p % 2) 0 h)
 
-  pub name-odd : (p % 2 ≡ 0 → ⊥) → nameAt t p ≡ targetAt t (p / 2)
-  unfolding nameAt
-  name-odd h = rw (nameAt, ne-eqb (p % 2) 0 h)
+  pub slot-odd : (p % 2 ≡ 0 → ⊥) → slotAt t p ≡ targetSlot (recordAt t (p / 2))
+  unfolding slotAt
+  slot-odd h = rw (slotAt, ne-eqb (p % 2) 0 h)
 
-pub name-owner : (t : List ℕ) (i : ℕ) → nameAt t (2 * i) ≡ ownerAt t i
-name-owner t i = let e : 2 * i / 2 ≡ i = omega arith in name-even t (2 * i) (omega arith) ∙ rw e
+pub slot-owner : (t : List ℕ) (i : ℕ) → slotAt t (2 * i) ≡ ownerSlot (recordAt t i)
+slot-owner t i = let e : 2 * i / 2 ≡ i = omega arith in slot-even t (2 * i) (omega arith) ∙ rw e
 
-pub name-target : (t : List ℕ) (i : ℕ) → nameAt t (2 * i + 1) ≡ targetAt t i
-name-target t i = let e : (2 * i + 1) / 2 ≡ i = omega arith in name-odd t (2 * i + 1) (λ h. omega arith) ∙ rw e
+pub slot-target : (t : List ℕ) (i : ℕ) → slotAt t (2 * i + 1) ≡ targetSlot (recordAt t i)
+slot-target t i = let e : (2 * i + 1) / 2 ≡ i = omega arith in slot-odd t (2 * i + 1) (λ h. omega arith) ∙ rw e
 
 -- ---- names that are held
 module _ (t : List ℕ) where

@@ -108,6 +108,15 @@ module _ (t : List ℕ) where
         let q = meeting-in (namesTo t i) (ownerAt t i) in
         sym p ∙ sym (owner-grows .keeps (ownerAt t i) (omega arith))
 
+    -- and after its record
+    pub own-stays : (j : ℕ) → j ≡ i + 1 → (numberIn (namesTo t j) (ownerAt t i) ≡ ownNumber t i) × (numberIn (namesTo t j) (ownerAt t i) < length (namesTo t j))
+    own-stays j z =
+        let p = meeting-number (namesTo t i) (ownerAt t i) in
+        let q = meeting-in (namesTo t i) (ownerAt t i) in
+        let e = grows-more i .keeps (ownerAt t i) (omega arith) in
+        let l = grows-more i .longer in
+        rw z (e ∙ p ∙ own-met, omega arith)
+
     pub own-listed : ownNumber t i < length (namesOf t)
     own-listed = let p = own-met in let q = meeting-in (namesTo t i) (ownerAt t i) in let r = owner-grows .longer in omega arith
 

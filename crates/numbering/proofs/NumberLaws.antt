@@ -7,15 +7,13 @@ use native.Mathlib.Decide.{decLt}
 use native.Mathlib.Omega.{arith}
 use lib.ListN.{length, getD, length-append}
 use borrow.Author.Tests.{lt-ltb, le-ltb}
+use Rattle.octets.proofs.BoolLaws.{clash}
 use Rattle.names.specs.Standard.{sameName}
 use Rattle.names.proofs.StandardLaws.{same-name-same, same-same-name}
 use Rattle.names.proofs.RoundLaws.{same-reflexive, same-symmetric, same-transitive}
 use Rattle.numbering.specs.Numbers.{numberIn, meeting}
 
 -- ---- the test for the same name
-clash : {b : Bool} → b ≡ true → b ≡ false → ⊥
-clash p q = let v : _≡_ {A = Bool} true false = sym p ∙ q in let z : _≡_ {A = ℕ} 0 1 = cc in omega arith
-
 pub same-back : (x y : List ℕ) → sameName x y ≡ true → sameName y x ≡ true
 same-back x y h = same-same-name y x (same-symmetric x y (same-name-same x y h))
 

@@ -18,7 +18,7 @@ use Rattle.numbering.specs.Graph.{numbered}
 use Rattle.numbering.specs.Numbers.{namesOf}
 use Rattle.numbering.specs.Buckets.{maxNames, Named}
 use Rattle.numbering.proofs.NamesLaws.{names-few}
-use Rattle.numbering.proofs.HeldLaws.{name-owner, name-target}
+use Rattle.numbering.proofs.HeldLaws.{slot-owner, slot-target}
 use Rattle.numbering.proofs.GraphLaws.{renamed}
 
 module _ (t : List ℕ) (o : InOrder t) where
@@ -30,14 +30,14 @@ module _ (t : List ℕ) (o : InOrder t) where
   owner-named i h = record {
     inside = omega arith;
     small = let m = order-count t o in omega arith;
-    standard = rw (name-owner t i) (order-good t o i h .owner .name);
+    holds = rw (slot-owner t i) (order-good t o i h .owner);
   }
 
   pub target-named : (i : ℕ) → i < countOf t → targetless (recordAt t i) ≡ false → Named t (2 * i + 1)
   target-named i h e = record {
     inside = omega arith;
     small = let m = order-count t o in omega arith;
-    standard = rw (name-target t i) (order-good t o i h .target e .name);
+    holds = rw (slot-target t i) (order-good t o i h .target e);
   }
 
   -- both graphs have addresses of sixteen octets and prefix lengths up to 128

@@ -1,19 +1,17 @@
 // What only our own layers call: the numbers of names, for a search that never looks at a name.
 ghost use mathlib.Core.Path.{_≡_};
 ghost use mathlib.Core.Bool.{true};
-ghost use Prim.Native.Nat.{_+_, _*_, _≤_, _<_};
+ghost use Prim.Native.Nat.{_≤_, _<_};
 ghost use lib.ListN.{length};
 ghost use Rattle.names.specs.Standard.{inStandardForm};
-ghost use Rattle.plan.specs.Layout.{countOf, recordAt};
-ghost use Rattle.plan.specs.Check.{targetless, InOrder};
+ghost use Rattle.plan.specs.Layout.{slotSize, nameIn, countOf, ownerAt};
+ghost use Rattle.plan.specs.Check.{InOrder};
+ghost use Rattle.plan.specs.Good.{Holds};
 ghost use Rattle.numbering.specs.Numbers.{numberIn, meeting, meetingTarget, namesOf, ownNumber, targetIn, targetNumber, filled};
-ghost use Rattle.numbering.specs.Buckets.{maxNames, nameAt, Named, held, bucketOf, Listing, Meets, Complete};
+ghost use Rattle.numbering.specs.Buckets.{maxNames, slotAt, nameAt, Named, held, bucketOf, Listing, again, Before, Meets, Complete};
 
 // The number that stands for no target.
 pub const NO_TARGET: u16 = 65535;
-
-// The type of an A6 record.
-const A6: u16 = 38;
 
 // The most names of a table, and how many buckets they are spread over.
 const NAMES: usize = 2048;
@@ -39,7 +37,8 @@ pub fn number(table: &[u8], name: &[u8], own: &mut [u16], target: &mut [u16]) ->
     let mut link = [0u16; NAMES];
     let mut places = [0u16; NAMES];
     let count = number_all(table, own, target, &mut head, &mut link, &mut places);
-    find(table, name, bucket_of(name), &head, &link, &places, count)
+    let slot = plan::inside::slot_of(name);
+    find(table, &slot, bucket_of(&slot), &head, &link, &places, count)
 }
 
 // The numbers of all owners and targets; the list of names is empty before and complete after. How many names it has.
@@ -61,7 +60,7 @@ fn number_all(
     let mut count: usize = 0;
     let mut i: usize = 0;
     while i < n {
-        let first = meet(table, 2 * i, head, link, places, count);
+        let first = meet_owner(table, i, own, head, link, places, count);
         own[i] = first.number;
         let second = meet_target(table, i, head, link, places, first.count);
         target[i] = second.number;
@@ -69,6 +68,44 @@ fn number_all(
         i += 1;
     }
     count
+}
+
+// The number of the owner of the record at an index, which goes to the end of the list if it is not there. Often it is the owner of the record before.
+fn meet_owner(
+    table: &[u8],
+    index: usize,
+    own: &[u16],
+    head: &mut [u16],
+    link: &mut [u16],
+    places: &mut [u16],
+    count: usize,
+) -> Met
+    requires { ⌜ (InOrder (now table)) × (Listing (now table) (now head) (now link) (now places) count) ⌝ }
+    requires { ⌜ (index < countOf (now table)) × (count < maxNames) × (Before (now table) (now own) (held (now table) (now places) count) index) ⌝ }
+    ensures { λ r. ⌜ Meets (now (table .entry)) count (numberIn (held (now (table .entry)) (now (places .entry)) count) (ownerAt (now (table .entry)) index))
+        (meeting (held (now (table .entry)) (now (places .entry)) count) (ownerAt (now (table .entry)) index)) (now (head .exit)) (now (link .exit)) (now (places .exit)) r ⌝ }
+{
+    if is_again(table, index) {
+        return Met {
+            number: own[index - 1],
+            count,
+        };
+    }
+    meet(table, 2 * index, head, link, places, count)
+}
+
+// Whether the owner of the record at an index is seen at once to be that of the record before.
+fn is_again(table: &[u8], index: usize) -> bool
+    requires { ⌜ index < countOf (now table) ⌝ }
+    ensures { λ r. ⌜ r ≡ again (now (table .entry)) index ⌝ }
+{
+    if index == 0 {
+        return false;
+    }
+    plan::inside::alike(
+        plan::inside::owner_slot(plan::inside::row(table, index - 1)),
+        plan::inside::owner_slot(plan::inside::row(table, index)),
+    )
 }
 
 // The number of the target of the record at an index, which goes to the end of the list if it is not there; `NO_TARGET` where there is none.
@@ -85,7 +122,7 @@ fn meet_target(
     ensures { λ r. ⌜ Meets (now (table .entry)) count (targetIn (held (now (table .entry)) (now (places .entry)) count) (now (table .entry)) index)
         (meetingTarget (now (table .entry)) index (held (now (table .entry)) (now (places .entry)) count)) (now (head .exit)) (now (link .exit)) (now (places .exit)) r ⌝ }
 {
-    if finished(table, index) {
+    if plan::inside::is_targetless(plan::inside::row(table, index)) {
         return Met {
             number: NO_TARGET,
             count,
@@ -107,9 +144,9 @@ fn meet(
     ensures { λ r. ⌜ Meets (now (table .entry)) count (numberIn (held (now (table .entry)) (now (places .entry)) count) (nameAt (now (table .entry)) place))
         (meeting (held (now (table .entry)) (now (places .entry)) count) (nameAt (now (table .entry)) place)) (now (head .exit)) (now (link .exit)) (now (places .exit)) r ⌝ }
 {
-    let name = name_at(table, place);
-    let bucket = bucket_of(name);
-    let number = find(table, name, bucket, head, link, places, count);
+    let slot = slot_at(table, place);
+    let bucket = bucket_of(slot);
+    let number = find(table, slot, bucket, head, link, places, count);
     if number < count {
         return Met {
             number: number as u16,
@@ -125,24 +162,24 @@ fn meet(
     }
 }
 
-// The number of a name in the list, its length where it is not there: the names of its bucket are compared with it, the last first.
+// The number in the list of the name in a slot, the list's length where it is not there: the names of its bucket are compared with it, the last first.
 fn find(
     table: &[u8],
-    name: &[u8],
+    slot: &[u8],
     bucket: usize,
     head: &[u16],
     link: &[u16],
     places: &[u16],
     count: usize,
 ) -> usize
-    requires { ⌜ (Listing (now table) (now head) (now link) (now places) count) × (inStandardForm (now name) ≡ true) × (bucket ≡ bucketOf (now name)) ⌝ }
-    ensures { λ r. ⌜ r ≡ numberIn (held (now (table .entry)) (now (places .entry)) count) (now (name .entry)) ⌝ }
+    requires { ⌜ (Listing (now table) (now head) (now link) (now places) count) × (length (now slot) ≡ slotSize) × (Holds (now slot)) × (bucket ≡ bucketOf (now slot)) ⌝ }
+    ensures { λ r. ⌜ r ≡ numberIn (held (now (table .entry)) (now (places .entry)) count) (nameIn (now (slot .entry))) ⌝ }
 {
     let mut next = wide(head[bucket]);
     while 0 < next {
         let number = next - 1;
-        let listed = name_at(table, wide(places[number]));
-        if names::equal(listed, name) {
+        let listed = slot_at(table, wide(places[number]));
+        if plan::inside::same(listed, slot) {
             return number;
         }
         next = wide(link[number]);
@@ -150,35 +187,24 @@ fn find(
     count
 }
 
-// The name at a place, as a part of the table.
-fn name_at(table: &[u8], place: usize) -> &[u8]
+// The slot at a place.
+fn slot_at(table: &[u8], place: usize) -> &[u8]
     requires { ⌜ Named (now table) place ⌝ }
-    ensures { λ r. ⌜ now r ≡ nameAt (now (table .entry)) place ⌝ }
+    ensures { λ r. ⌜ (now r ≡ slotAt (now (table .entry)) place) × (length (now r) ≡ slotSize) ⌝ }
 {
-    let index = place / 2;
+    let row = plan::inside::row(table, place / 2);
     if place % 2 == 0 {
-        return plan::inside::owner(table, index);
+        return plan::inside::owner_slot(row);
     }
-    plan::inside::target(table, index)
+    plan::inside::target_slot(row)
 }
 
-// The bucket of a name.
-fn bucket_of(name: &[u8]) -> usize
-    requires { ⌜ inStandardForm (now name) ≡ true ⌝ }
-    ensures { λ r. ⌜ r ≡ bucketOf (now (name .entry)) ⌝ }
+// The bucket of a slot.
+fn bucket_of(slot: &[u8]) -> usize
+    requires { ⌜ length (now slot) ≡ slotSize ⌝ }
+    ensures { λ r. ⌜ r ≡ bucketOf (now (slot .entry)) ⌝ }
 {
-    wide(plan::inside::mark(name)) % BUCKETS
-}
-
-// Whether the record at an index is a finished A6 record, which has no target.
-fn finished(table: &[u8], index: usize) -> bool
-    requires { ⌜ index < countOf (now table) ⌝ }
-    ensures { λ r. ⌜ r ≡ targetless (recordAt (now (table .entry)) index) ⌝ }
-{
-    if plan::inside::kind(table, index) != A6 {
-        return false;
-    }
-    plan::inside::prefix(table, index) == 0
+    wide(plan::inside::mark(slot)) % BUCKETS
 }
 
 // A stored number as an index.

@@ -57,6 +57,13 @@ unfolding unpack
 unpack-zero [] = refl
 unpack-zero (x ∷ xs) = unpack-zero xs
 
+-- a whole octet
+pub unpack-octet : (n x : ℕ) (xs : List ℕ) → 8 ≤ n → unpack n (x ∷ xs) ≡ bitsOf 8 x ++ unpack (n - 8) xs
+unfolding unpack
+unpack-octet n x xs h =
+    let m : min 8 n ≡ 8 = omega arith in
+    rw m (ap (λ (z : ℕ). bitsOf 8 z ++ unpack (n - 8) xs) (div-one x))
+
 pub unpack-length : (n : ℕ) (xs : List ℕ) → n ≤ length xs * 8 → length (unpack n xs) ≡ n
 unfolding unpack
 unpack-length n [] h = omega arith

@@ -5,3 +5,6 @@ pub mod PackingLaws
 pub mod PackLaws
 pub mod ZeroLaws
 pub mod SmallLaws
+pub mod NumberLaws
+pub mod UnpackLaws
+pub mod BoolLaws

@@ -7,7 +7,7 @@ use lib.Seq.{drop-set-lt, take-suc-set, drop-drop, drop-cons, append-snoc}
 use lib.Pow.{pow-pos, pow-add, pow-mono, shr-lt, shl-exact}
 use lib.Arith.{digits-lt}
 use native.Mathlib.Omega.{arith}
-use native.Mathlib.Nat.{mod-lt, div-one}
+use native.Mathlib.Nat.{mod-lt}
 use native.Mathlib.Numerals.{add-one}
 use borrow.Author.Tests.{ne-eqb, eq-eqb}
 use Rattle.octets.specs.Octets.{blank}
@@ -15,7 +15,7 @@ use Rattle.octets.specs.Bits.{bitsOf, unpack, packFrom}
 use Rattle.octets.proofs.OctetLaws.{drop-blank}
 use Rattle.octets.specs.Packing.{Clean, Ready, Pushed, Flushed}
 use Rattle.octets.specs.declared.inside.Packer.{Packer}
-use Rattle.octets.proofs.BitLaws.{bits-length, push-part, push-full, unpack-zero, unpack-length}
+use Rattle.octets.proofs.BitLaws.{bits-length, push-part, push-full, unpack-zero, unpack-octet, unpack-length}
 
 pub clean-drop : (out : List ℕ) (to k : ℕ) → Clean out to → drop (to + k) out ≡ blank (length out - (to + k))
 clean-drop out to k c =
@@ -84,15 +84,9 @@ pushed-then a b c p q r xs ys f g =
     }
 
 -- a turn of the loop over a label's octets, and its last octet
-unpack-eight : (n y : ℕ) (ys : List ℕ) → 8 ≤ n → unpack n (y ∷ ys) ≡ bitsOf 8 y ++ unpack (n - 8) ys
-unfolding unpack
-unpack-eight n y ys k =
-    let m : min 8 n ≡ 8 = omega arith in
-    rw m (ap (λ (z : ℕ). bitsOf 8 z ++ unpack (n - 8) ys) (div-one y))
-
 pub unpack-turn : (name : List ℕ) (i n : ℕ) → i < length name → 8 ≤ n → unpack n (drop i name) ≡ bitsOf 8 (getD name i 0) ++ unpack (n - 8) (drop (i + 1) name)
 unpack-turn name i n h k =
-    rw (drop-cons name i 0 h, add-one i) (unpack-eight n (getD name i 0) (drop (suc i) name) k)
+    rw (drop-cons name i 0 h, add-one i) (unpack-octet n (getD name i 0) (drop (suc i) name) k)
 
 pub unpack-last : (name : List ℕ) (i n : ℕ) → i < length name → n < 8 → unpack n (drop i name) ≡ bitsOf n (getD name i 0 / 2 ^ (8 - n))
 unfolding unpack

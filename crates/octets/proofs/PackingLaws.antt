@@ -9,11 +9,11 @@ use lib.Seq.{length-take-le, getD-drop}
 use lib.Pow.{pow-pos, shl-shr, high, low, field, mod-mod-pow}
 use lib.Arith.{digits-lt}
 use native.Mathlib.Omega.{arith}
-use native.Mathlib.Nat.{zero-add, add-zero, div-one, mod-eq-of-lt, pow-suc, mod-one}
+use native.Mathlib.Nat.{zero-add, add-zero, mod-eq-of-lt, pow-suc, mod-one}
 use borrow.Author.Tests.{eqb-true, eqb-false, ltb-true, ltb-false, ne-eqb}
 use Rattle.octets.specs.Bits.{Bits, bitsOf, octetsFor, unpack, packFrom, pack}
 use Rattle.octets.proofs.OctetLaws.{nil-of-length}
-use Rattle.octets.proofs.BitLaws.{pack-some, pack-full, unpack-zero}
+use Rattle.octets.proofs.BitLaws.{pack-some, pack-full, unpack-zero, unpack-octet}
 
 -- a whole number of octets
 pack-from-length : (h v : ℕ) (bs : List ℕ) → h < 8 → length (packFrom h v bs) ≡ (h + length bs + 7) / 8
@@ -49,7 +49,7 @@ bits-append [] ys h k i = k i
 bits-append (x ∷ xs) ys h k zero = h 0
 bits-append (x ∷ xs) ys h k (suc i) = bits-append xs ys (λ j. h (suc j)) k i
 
-bits-bits : (m x : ℕ) → Bits (bitsOf m x)
+pub bits-bits : (m x : ℕ) → Bits (bitsOf m x)
 unfolding bitsOf
 bits-bits zero x i = omega arith
 bits-bits (suc m) x zero = omega arith
@@ -61,7 +61,7 @@ unpack-bits n [] = λ i. omega arith
 unpack-bits n (x ∷ xs) = bits-append (bitsOf (min 8 n) (x / 2 ^ (8 - min 8 n))) (unpack (n - 8) xs) (bits-bits (min 8 n) (x / 2 ^ (8 - min 8 n))) (unpack-bits (n - 8) xs)
 
 -- only the lowest bits count
-bits-mod : (m n x : ℕ) → m ≤ n → bitsOf m x ≡ bitsOf m (x % 2 ^ n)
+pub bits-mod : (m n x : ℕ) → m ≤ n → bitsOf m x ≡ bitsOf m (x % 2 ^ n)
 unfolding bitsOf
 bits-mod zero n x h = refl
 bits-mod (suc m) n x h =
@@ -147,10 +147,6 @@ unpack-part-again n v rest h =
     let z : n - 8 ≡ 0 = omega arith in
     rw (m, z, unpack-zero rest, shl-shr v (8 - n)) (append-nil (bitsOf n v))
 
-unpack-whole-again : (n v : ℕ) (rest : List ℕ) → 8 ≤ n → unpack n (v ∷ rest) ≡ bitsOf 8 v ++ unpack (n - 8) rest
-unfolding unpack
-unpack-whole-again n v rest h = let m : min 8 n ≡ 8 = omega arith in rw m (ap (λ (z : ℕ). bitsOf 8 z ++ unpack (n - 8) rest) (div-one v))
-
 -- unpacking what was packed gives the bits back, whatever octets come after
 pub unpack-pack : (fuel : ℕ) (bs : List ℕ) → length bs ≤ fuel → Bits bs → (rest : List ℕ) → unpack (length bs) (packFrom 0 0 bs ++ rest) ≡ bs
 unpack-pack zero bs f h rest =
@@ -172,7 +168,7 @@ unpack-pack (suc fuel) bs f h rest = go (ltb (length bs) 8) refl (λ g. unpack-p
         let w = whole-octet bs h k in
         let l : length (drop 8 bs) ≡ length bs - 8 = length-drop 8 bs in
         let i : unpack (length bs - 8) (packFrom 0 0 (drop 8 bs) ++ rest) ≡ drop 8 bs = rw l at (ih (omega arith)) in
-        ap (λ (ys : List ℕ). unpack (length bs) (ys ++ rest)) (w .packed) ∙ unpack-whole-again (length bs) (w .value) (packFrom 0 0 (drop 8 bs) ++ rest) k
+        ap (λ (ys : List ℕ). unpack (length bs) (ys ++ rest)) (w .packed) ∙ unpack-octet (length bs) (w .value) (packFrom 0 0 (drop 8 bs) ++ rest) k
         ∙ ap (λ (ys : List ℕ). bitsOf 8 (w .value) ++ ys) i ∙ ap (λ (ys : List ℕ). ys ++ drop 8 bs) (sym (w .same)) ∙ take-append-drop 8 bs
 
 -- and the unused bits are zero

@@ -3,3 +3,4 @@ pub mod Bits
 pub mod Answers
 pub mod Packing
 pub mod Zeros
+pub mod Numbers

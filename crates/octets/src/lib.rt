@@ -44,4 +44,5 @@ pub fn wide(x: u8) -> usize
 }
 
 pub mod inside;
+pub mod numbers;
 pub mod zeros;

@@ -1,11 +1,13 @@
 -- Tables checked, by computation. Assumes nothing.
 use Prim.Native.Nat.{ℕ}
 use mathlib.Core.Path.{_≡_, refl}
+use mathlib.Core.Bool.{true, false}
 use mathlib.Core.List.{List, [], _∷_, _++_, map}
-use lib.ListN.{take, drop, set}
+use lib.ListN.{take, drop, set, replicate}
 use Rattle.octets.specs.Octets.{blank}
 use Rattle.plan.specs.Layout.{slotSize, addressSize, a6, dname, slotOf, recordOf, octetsOf, recordsOf}
 use Rattle.plan.specs.Check.{faultOf, checkOf}
+use Rattle.plan.specs.Marks.{markOf, alikeOf}
 use Rattle.plan.specs.Part.{ownerPart}
 
 -- names: the root, h.a, p.a, two bit labels side by side, and a name that is cut off
@@ -127,3 +129,17 @@ parts : ownerPart good 0 ∷ ownerPart good 3 ∷ ownerPart good 5 ∷ ownerPart
     ≡ record { offset = 21; length = 5 } ∷ record { offset = 1617; length = 5 } ∷ record { offset = 0; length = 0 } ∷ record { offset = 0; length = 0 } ∷ []
 unfolding ownerPart octetsOf good h64 p0 alias ha pa
 parts = refl
+
+-- a label of forty octets that ends in x, so that two such names differ past the first 32 octets of their slots
+long : ℕ → List ℕ
+long x = 40 ∷ replicate 39 97 ++ (x ∷ 0 ∷ [])
+
+-- marks of slots, and slots that are alike: the same short name is, a long one is not even with itself
+marks : map markOf (slotOf root ∷ slotOf ha ∷ slotOf pa ∷ slotOf (long 1) ∷ slotOf (long 2) ∷ []) ≡ 52373 ∷ 15396 ∷ 37843 ∷ 20288 ∷ 20068 ∷ []
+unfolding markOf slotOf root ha pa long
+marks = refl
+
+alikes : alikeOf (slotOf ha) (slotOf ha) ∷ alikeOf (slotOf ha) (slotOf pa) ∷ alikeOf (slotOf (long 1)) (slotOf (long 2)) ∷ alikeOf (slotOf (long 1)) (slotOf (long 1)) ∷ []
+    ≡ true ∷ false ∷ false ∷ false ∷ []
+unfolding alikeOf slotOf ha pa long
+alikes = refl

@@ -1,5 +1,5 @@
 -- Laws of a record's faults: the fields in their order, and what a record without a fault is like. Assumes nothing.
-use Prim.Native.Nat.{ℕ, suc}
+use Prim.Native.Nat.{ℕ}
 use mathlib.Core.Path.{_≡_, refl, ap, _∙_, sym}
 use mathlib.Core.Bool.{Bool, true, false, not, _&&_}
 use mathlib.Core.List.{List}
@@ -7,8 +7,8 @@ use mathlib.Core.Logic.{_⊎_, inl, inr}
 use lib.Dec.{leb, eqb}
 use native.Mathlib.Omega.{arith}
 use borrow.Author.Tests.{eq-eqb, ne-eqb, eqb-true, eqb-false, le-leb, leb-true, not-false}
+use Rattle.octets.proofs.SmallLaws.{earns-zero}
 use Rattle.octets.specs.Octets.{blank, same}
-use Rattle.octets.specs.Answers.{earns}
 use Rattle.octets.proofs.SameLaws.{same-eq, same-refl}
 use Rattle.names.specs.Standard.{inStandardForm}
 use Rattle.address.specs.Address.{clearTo}
@@ -141,11 +141,6 @@ eq-empty : (s : List ℕ) → s ≡ blank slotSize → slotEmpty s ≡ true
 unfolding slotEmpty
 eq-empty s h = rw h (same-refl (blank slotSize))
 
--- a test that is not earned
-pub passed : (b : Bool) (n later : ℕ) → earns b (suc n) later ≡ 0 → (b ≡ false) × (later ≡ 0)
-passed true n later h = let z : ⊥ = omega arith in absurd z
-passed false n later h = (refl, h)
-
 -- the fields of a record without a fault pass their tests
 record Passes (r : List ℕ) : Type 0 where
   kind : typeGood r ≡ true
@@ -158,12 +153,12 @@ record Passes (r : List ℕ) : Type 0 where
 passes : (r : List ℕ) → faultOf r ≡ 0 → Passes r
 unfolding faultOf
 passes r h =
-    let a = passed (not (typeGood r)) 0 _ h in
-    let b = passed (not (prefixGood r)) 1 _ (a .1) in
-    let c = passed (not (eqb (zeroOf r) 0)) 2 _ (b .1) in
-    let d = passed (not (addressGood r)) 3 _ (c .1) in
-    let e = passed (not (slotGood (ownerSlot r))) 4 _ (d .1) in
-    let f = passed (not (targetGood r)) 5 _ (e .1) in
+    let a = earns-zero (not (typeGood r)) 0 _ h in
+    let b = earns-zero (not (prefixGood r)) 1 _ (a .1) in
+    let c = earns-zero (not (eqb (zeroOf r) 0)) 2 _ (b .1) in
+    let d = earns-zero (not (addressGood r)) 3 _ (c .1) in
+    let e = earns-zero (not (slotGood (ownerSlot r))) 4 _ (d .1) in
+    let f = earns-zero (not (targetGood r)) 5 _ (e .1) in
     record {
       kind = not-false (typeGood r) (a .0);
       prefix = not-false (prefixGood r) (b .0);

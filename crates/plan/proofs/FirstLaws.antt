@@ -22,7 +22,7 @@ module _ (f : ℕ → Bool) (i n : ℕ) where
   unfolding firstFrom
   first-end h = let k : n - i ≡ 0 = omega arith in rw k
 
-first-most : (f : ℕ → Bool) (i n : ℕ) → firstFrom f i n ≤ i + n
+pub first-most : (f : ℕ → Bool) (i n : ℕ) → firstFrom f i n ≤ i + n
 unfolding firstFrom
 first-most f i zero = omega arith
 first-most f i (suc n) = go (f i) refl (first-most f (suc i) n)

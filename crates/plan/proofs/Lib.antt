@@ -6,5 +6,6 @@ pub mod FirstLaws
 pub mod FaultLaws
 pub mod OrderLaws
 pub mod MarkLaws
+pub mod AlikeLaws
 pub mod PartLaws
 pub mod Examples

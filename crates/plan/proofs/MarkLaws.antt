@@ -1,52 +1,54 @@
--- Laws of marks: names that are the same have the same mark. Assumes nothing.
-use Prim.Native.Nat.{ℕ, zero, suc, _+_, _-_, _*_, _≤_, _<_}
+-- Laws of marks: slots of the same name have the same mark. Assumes nothing.
+use Prim.Native.Nat.{ℕ, zero, suc, _+_, _*_, _^_, _≤_, _<_}
 use mathlib.Core.Path.{_≡_, refl, ap, _∙_, sym}
-use mathlib.Core.Bool.{Bool, true, false, _||_}
+use mathlib.Core.Bool.{Bool, true, false}
 use mathlib.Core.List.{List, [], _∷_}
 use lib.Dec.{eqb}
-use lib.ListN.{length, getD, take, drop, set, drop-of-length-le, List·getD-eq-default}
+use lib.ListN.{length, getD, take, drop, set, drop-of-length-le}
 use lib.Seq.{drop-cons, getD-set-same, getD-set-other, getD-take}
 use native.Mathlib.Omega.{arith}
+use native.Mathlib.Nat.{mul-le-mul}
 use native.Mathlib.Numerals.{add-one}
-use borrow.Author.Tests.{eq-eqb, ne-eqb, eqb-true, eqb-false}
+use borrow.Author.Tests.{lt-ltb, le-ltb, eq-eqb, ne-eqb, eqb-true, eqb-false}
 use Rattle.octets.proofs.SameLaws.{same-eq}
-use Rattle.names.specs.Standard.{sameName, inStandardForm}
+use Rattle.names.specs.Standard.{sameName}
 use Rattle.names.proofs.StandardLaws.{same-octets}
-use Rattle.plan.specs.Layout.{isDname, recordAt, ownerAt}
+use Rattle.plan.specs.Layout.{nameIn, slotOf, ownerSlot, isDname, recordAt, ownerAt}
 use Rattle.plan.specs.First.{some}
 use Rattle.plan.specs.Check.{twin, repeats}
-use Rattle.plan.specs.Marks.{wordAt, sumTo, sumsTo, markOf, markAt, Marked, Ready, among}
+use Rattle.plan.specs.Good.{Holds}
+use Rattle.plan.specs.Marks.{termAt, sumTo, sumOf, markOf, markAt, Marked, Ready, among}
 use Rattle.plan.proofs.FirstLaws.{none-first, none-some}
-use Rattle.plan.proofs.OrderLaws.{sound-owner}
+use Rattle.plan.proofs.OrderLaws.{sound-good}
 
--- the one law that ties marks to the equality of names
-pub same-mark : (m n : List ℕ) → inStandardForm m ≡ true → inStandardForm n ≡ true → sameName m n ≡ true → markOf m ≡ markOf n
-same-mark m n p q h = ap markOf (same-eq m n (same-octets m n p q ∙ h))
+-- the one law that ties marks to the equality of names: a slot that holds a name is determined by it
+pub same-mark : (s s′ : List ℕ) → Holds s → Holds s′ → sameName (nameIn s) (nameIn s′) ≡ true → markOf s ≡ markOf s′
+same-mark s s′ p q h = ap markOf (p .whole ∙ ap slotOf (same-eq (nameIn s) (nameIn s′) (same-octets (nameIn s) (nameIn s′) (p .name) (q .name) ∙ h)) ∙ sym (q .whole))
 
--- one more word
-pub sum-more : (xs : List ℕ) (k : ℕ) → sumTo xs (k + 1) ≡ sumTo xs k + wordAt xs (k * 4)
-unfolding sumTo
-sum-more xs k = rw (add-one k)
+-- a word and its factor fit
+pub term-fits : (w k : ℕ) → w < 4294967296 → k < 64 → w * (52361 + k * 7919) < 2 ^ 52
+term-fits w k h l =
+    let m = mul-le-mul {n₁ = w} {m₁ = 52361 + k * 7919} {n₂ = 4294967295} {m₂ = 551258} (omega arith) (omega arith) in
+    omega arith
 
-pub sums-more : (xs : List ℕ) (k : ℕ) → sumsTo xs (k + 1) ≡ sumsTo xs k + (sumTo xs k + wordAt xs (k * 4))
-unfolding sumTo sumsTo
-sums-more xs k = rw (add-one k)
+-- the sums
+module _ (s : List ℕ) where
+  pub sum-more : (k : ℕ) → sumTo s (k + 1) ≡ sumTo s k + termAt s k
+  unfolding sumTo
+  sum-more k = rw (add-one k)
 
--- a word of fewer than four octets
-pub word-short : (xs : List ℕ) → length xs < 4 → wordAt xs (length xs - 4) ≡ getD xs 0 0 * 16777216 + getD xs 1 0 * 65536 + getD xs 2 0 * 256
-unfolding wordAt
-word-short xs h =
-    let z : length xs - 4 ≡ 0 = omega arith in
-    let e : getD xs 3 0 ≡ 0 = List·getD-eq-default xs 0 {n = 3} (omega arith) in
-    rw (z, e) (omega arith)
+  pub sum-eight : {t0 t1 t2 t3 t4 t5 t6 t7 : ℕ} → t0 ≡ termAt s 0 → t1 ≡ termAt s 1 → t2 ≡ termAt s 2 → t3 ≡ termAt s 3 → t4 ≡ termAt s 4 → t5 ≡ termAt s 5
+      → t6 ≡ termAt s 6 → t7 ≡ termAt s 7 → t0 + t1 + t2 + t3 + t4 + t5 + t6 + t7 ≡ sumTo s 8
+  unfolding sumTo
+  sum-eight e0 e1 e2 e3 e4 e5 e6 e7 = omega (arith, e0, e1, e2, e3, e4, e5, e6, e7)
 
-pub or-true : (v : Bool) → (v || true) ≡ true
-or-true true = refl
-or-true false = refl
+  pub sum-short : getD s 0 0 < 32 → sumOf s ≡ sumTo s 8
+  unfolding sumOf
+  sum-short h = rw (sumOf, lt-ltb (getD s 0 0) 32 h)
 
-pub or-false : (v : Bool) → (v || false) ≡ v
-or-false true = refl
-or-false false = refl
+  pub sum-long : 32 ≤ getD s 0 0 → sumOf s ≡ sumTo s 64
+  unfolding sumOf
+  sum-long h = rw (sumOf, le-ltb (getD s 0 0) 32 h)
 
 -- the turns of the loop that looks for a mark
 module _ (m : ℕ) (marks : List ℕ) (i : ℕ) where
@@ -75,7 +77,7 @@ among-not m (x ∷ xs) h i p e = go (eqb x m) refl i p e (λ k l f. among-not m 
 
 -- the mark of a record
 module _ (t : List ℕ) (i : ℕ) where
-  pub mark-dname : isDname (recordAt t i) ≡ true → markAt t i ≡ markOf (ownerAt t i)
+  pub mark-dname : isDname (recordAt t i) ≡ true → markAt t i ≡ markOf (ownerSlot (recordAt t i))
   unfolding markAt
   mark-dname h = rw (markAt, h)
 
@@ -93,13 +95,13 @@ module _ (t : List ℕ) (j i : ℕ) where
   unfolding twin
   twin-dname h = rw h
 
-  pub twin-unlike : inStandardForm (ownerAt t i) ≡ true → inStandardForm (ownerAt t j) ≡ true → isDname (recordAt t j) ≡ true → (markAt t i ≡ markAt t j → ⊥) → twin t j i ≡ false
+  pub twin-unlike : Holds (ownerSlot (recordAt t i)) → Holds (ownerSlot (recordAt t j)) → isDname (recordAt t j) ≡ true → (markAt t i ≡ markAt t j → ⊥) → twin t j i ≡ false
   twin-unlike p q d u = go (isDname (recordAt t i)) (sameName (ownerAt t i) (ownerAt t j)) refl refl
     where
       go : (v w : Bool) → isDname (recordAt t i) ≡ v → sameName (ownerAt t i) (ownerAt t j) ≡ w → twin t j i ≡ false
       go false w e f = twin-other e
       go true false e f = twin-dname e ∙ f
-      go true true e f = absurd (u (mark-dname t i e ∙ same-mark (ownerAt t i) (ownerAt t j) p q f ∙ sym (mark-dname t j d)))
+      go true true e f = absurd (u (mark-dname t i e ∙ same-mark (ownerSlot (recordAt t i)) (ownerSlot (recordAt t j)) p q f ∙ sym (mark-dname t j d)))
 
 module _ (t : List ℕ) (j : ℕ) where
   pub repeats-other : isDname (recordAt t j) ≡ false → repeats t j ≡ false
@@ -114,7 +116,7 @@ module _ (t : List ℕ) (j : ℕ) where
 module _ (t marks : List ℕ) (j m : ℕ) (w : Ready t marks j m) (d : isDname (recordAt t j) ≡ true) where
   pub twin-not : (i : ℕ) → i < j → (getD marks i 0 ≡ m → ⊥) → twin t j i ≡ false
   twin-not i p u =
-      twin-unlike t j i (sound-owner t (w .sound) i (omega (arith, w .here))) (sound-owner t (w .sound) j (w .here)) d
+      twin-unlike t j i (sound-good t (w .sound) i (omega (arith, w .here)) .owner) (sound-good t (w .sound) j (w .here) .owner) d
       (λ e. u (w .before i p ∙ e ∙ sym (w .own)))
 
   pub no-twin : among m marks ≡ false → some (twin t j) j ≡ false

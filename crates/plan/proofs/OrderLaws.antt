@@ -7,6 +7,7 @@ use lib.Dec.{ltb, eqb}
 use lib.ListN.{length, getD}
 use native.Mathlib.Omega.{arith}
 use borrow.Author.Tests.{eq-eqb, ne-eqb, eqb-true, lt-ltb, le-ltb, ltb-true, ltb-false, not-false}
+use Rattle.octets.proofs.SmallLaws.{earns-zero}
 use Rattle.octets.specs.Answers.{refusal}
 use Rattle.names.specs.Standard.{sameName, inStandardForm}
 use Rattle.names.proofs.StandardLaws.{same-name-same, same-same-name}
@@ -18,7 +19,7 @@ use Rattle.plan.specs.Good.{Good}
 use Rattle.plan.proofs.LayoutLaws.{Whole, octets-length, count-octets, record-octets}
 use Rattle.plan.proofs.SlotLaws.{bool-iff}
 use Rattle.plan.proofs.FirstLaws.{first-none, none-first, some-none, none-some}
-use Rattle.plan.proofs.FaultLaws.{fault-good, good-fault, dname-is, is-dname, passed}
+use Rattle.plan.proofs.FaultLaws.{fault-good, good-fault, dname-is, is-dname}
 
 -- a table in which no record is at fault
 module _ (t : List ℕ) (s : firstFault t ≡ countOf t) where
@@ -98,7 +99,7 @@ apart t s i j p q d e =
 module _ (t : List ℕ) (o : InOrder t) where
   sized : missized t ≡ false
   unfolding checkOf
-  sized = passed (missized t) 0 _ o .0
+  sized = earns-zero (missized t) 0 _ o .0
 
   pub order-length : length t ≡ countOf t * recordSize
   unfolding missized countOf
@@ -110,12 +111,12 @@ module _ (t : List ℕ) (o : InOrder t) where
 
   pub order-sound : firstFault t ≡ countOf t
   unfolding checkOf firstFault
-  order-sound = some-none (faulty t) (countOf t) (passed (ltb (firstFault t) (countOf t)) 1 _ (passed (missized t) 0 _ o .1) .0)
+  order-sound = some-none (faulty t) (countOf t) (earns-zero (ltb (firstFault t) (countOf t)) 1 _ (earns-zero (missized t) 0 _ o .1) .0)
 
   order-repeat : firstRepeat t ≡ countOf t
   unfolding checkOf firstRepeat
   order-repeat =
-      some-none (repeats t) (countOf t) (passed (ltb (firstRepeat t) (countOf t)) 2 _ (passed (ltb (firstFault t) (countOf t)) 1 _ (passed (missized t) 0 _ o .1) .1) .0)
+      some-none (repeats t) (countOf t) (earns-zero (ltb (firstRepeat t) (countOf t)) 2 _ (earns-zero (ltb (firstFault t) (countOf t)) 1 _ (earns-zero (missized t) 0 _ o .1) .1) .0)
 
   pub order-good : (i : ℕ) → i < countOf t → Good (recordAt t i)
   order-good = sound-good t order-sound

@@ -1,19 +1,20 @@
 -- Laws of slots. Assumes nothing.
-use Prim.Native.Nat.{ℕ, _+_, _-_, _<_}
+use Prim.Native.Nat.{ℕ, _+_, _-_, _≤_, _<_}
 use mathlib.Core.Path.{_≡_, refl, ap, _∙_, sym}
 use mathlib.Core.Bool.{Bool, true, false, _&&_}
 use mathlib.Core.List.{List, [], _∷_, _++_}
-use lib.ListN.{length, getD, take, drop, length-drop, take-append-drop}
-use lib.Seq.{length-take-le, drop-drop, drop-cons, drop-at}
+use lib.ListN.{length, getD, take, drop, length-append, length-drop, take-append-drop}
+use lib.Seq.{paste, length-take-le, take-length, take-append-seam, drop-drop, drop-cons, drop-at}
 use native.Mathlib.Omega.{arith}
 use Rattle.octets.specs.Octets.{blank, same, Small}
 use Rattle.octets.specs.Zeros.{isBlank}
-use Rattle.octets.proofs.OctetLaws.{length-blank, small-take, small-drop}
+use Rattle.octets.proofs.OctetLaws.{length-blank, drop-blank, small-take, small-drop}
 use Rattle.octets.proofs.SameLaws.{same-eq, same-refl}
 use Rattle.octets.proofs.ZeroLaws.{blank-eq}
 use Rattle.names.specs.Standard.{inStandardForm}
 use Rattle.plan.specs.Layout.{nameRoom, slotSize, nameIn, slotOf}
 use Rattle.plan.specs.Check.{slotGood, slotEmpty}
+use Rattle.plan.specs.Good.{Holds}
 
 -- two tests that imply each other
 pub bool-iff : (a b : Bool) → (a ≡ true → b ≡ true) → (b ≡ true → a ≡ true) → a ≡ b
@@ -90,3 +91,23 @@ slot-empty s l = rw l
 pub none-name : nameIn (blank slotSize) ≡ []
 unfolding nameIn blank
 none-name = refl
+
+-- the slot that is made of a name
+module _ (name : List ℕ) (h : length name ≤ nameRoom) where
+  pub slot-size : length (slotOf name) ≡ slotSize
+  unfolding slotOf
+  slot-size = omega (arith, length-append name (blank (nameRoom - length name)), length-blank (nameRoom - length name))
+
+  pub slot-written : paste (length name ∷ blank nameRoom) 1 (drop 0 name) (length name) ≡ slotOf name
+  unfolding slotOf
+  slot-written =
+      let d : drop (1 + length name) (length name ∷ blank nameRoom) ≡ blank (nameRoom - length name) =
+      sym (drop-drop (length name) 1 (length name ∷ blank nameRoom)) ∙ drop-blank (length name) nameRoom in
+      rw (d, take-length name)
+
+pub name-made : (name : List ℕ) → nameIn (slotOf name) ≡ name
+unfolding nameIn slotOf
+name-made name = take-append-seam name (blank (nameRoom - length name))
+
+pub holds-made : (name : List ℕ) → inStandardForm name ≡ true → Holds (slotOf name)
+holds-made name h = let e = name-made name in record { name = rw e h; whole = rw e }

@@ -1,11 +1,11 @@
 -- Laws of writing a record field by field. Assumes nothing.
-use Prim.Native.Nat.{ℕ, _+_, _≤_}
+use Prim.Native.Nat.{ℕ, _+_, _/_, _%_, _≤_}
 use mathlib.Core.Path.{_≡_, refl, sym, ap, _∙_}
 use mathlib.Core.List.{List, [], _∷_, _++_, append-assoc}
 use lib.ListN.{length, take, drop, length-append}
 use lib.Seq.{paste, take-at, drop-drop, take-append-add, drop-append-add, take-all, length-take-le}
 use native.Mathlib.Omega.{arith}
-use Rattle.plan.specs.Layout.{recordSize, addressSize, slotSize, addressPlace, ownerPlace, targetPlace, a6, recordOf}
+use Rattle.plan.specs.Layout.{recordSize, addressSize, slotSize, addressPlace, ownerPlace, targetPlace, recordOf}
 
 -- a copy just after a copy is one copy
 paste-next : (d : List ℕ) (at : ℕ) (s₁ s₂ : List ℕ) (n₁ n₂ : ℕ) → at + n₁ ≤ length d → length s₁ ≡ n₁ → paste (paste d at s₁ n₁) (at + n₁) s₂ n₂ ≡ paste d at (s₁ ++ s₂) (n₁ + n₂)
@@ -19,15 +19,15 @@ paste-next d at s₁ s₂ n₁ n₂ h e =
     ∙ drop-drop n₂ (at + n₁) d ∙ ap (λ (k : ℕ). drop k d) g in
     rw (t, take-at (take at d ++ s₁) (drop (at + n₁) d) (at + n₁) f, v, u, append-assoc (take at d) s₁ (take n₂ s₂))
 
--- the four copies that write an A6 record
-pub record-written : (out o₁ o₂ o₃ o₄ address owner target : List ℕ) (prefix to : ℕ)
+-- the four copies that write a record
+pub record-written : (out o₁ o₂ o₃ o₄ address owner target : List ℕ) (kind prefix to : ℕ)
     → length address ≡ addressSize → length owner ≡ slotSize → length target ≡ slotSize → to + recordSize ≤ length out
-    → o₁ ≡ paste out to (0 ∷ a6 ∷ prefix ∷ 0 ∷ []) addressPlace → o₂ ≡ paste o₁ (to + addressPlace) address addressSize
+    → o₁ ≡ paste out to (kind / 256 ∷ kind % 256 ∷ prefix ∷ 0 ∷ []) addressPlace → o₂ ≡ paste o₁ (to + addressPlace) address addressSize
     → o₃ ≡ paste o₂ (to + ownerPlace) owner slotSize → o₄ ≡ paste o₃ (to + targetPlace) target slotSize
-    → o₄ ≡ paste out to (recordOf a6 prefix address owner target) recordSize
+    → o₄ ≡ paste out to (recordOf kind prefix address owner target) recordSize
 unfolding recordOf
-record-written out o₁ o₂ o₃ o₄ address owner target prefix to la lo lt h k₁ k₂ k₃ k₄ =
-    let head : List ℕ = 0 ∷ a6 ∷ prefix ∷ 0 ∷ [] in
+record-written out o₁ o₂ o₃ o₄ address owner target kind prefix to la lo lt h k₁ k₂ k₃ k₄ =
+    let head : List ℕ = kind / 256 ∷ kind % 256 ∷ prefix ∷ 0 ∷ [] in
     let m₂ : o₂ ≡ paste out to (head ++ address) ownerPlace = k₂ ∙ ap (λ (o : List ℕ). paste o (to + addressPlace) address addressSize) k₁
     ∙ paste-next out to head address addressPlace addressSize (omega arith) refl in
     let m₃ : o₃ ≡ paste out to (head ++ address ++ owner) targetPlace = k₃ ∙ ap (λ (o : List ℕ). paste o (to + ownerPlace) owner slotSize) m₂

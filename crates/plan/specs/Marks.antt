@@ -1,37 +1,53 @@
--- Marks of names: a short number that the check of a table compares before it compares names. Assumes nothing.
-use Prim.Native.Nat.{ℕ, zero, suc, _+_, _-_, _*_, _/_, _%_, _<_}
+-- Marks of slots: a short number that slots of the same name share, looked at before names are compared. Assumes nothing.
+use Prim.Native.Nat.{ℕ, zero, suc, _+_, _*_, _/_, _%_, _<_}
 use mathlib.Core.Path.{_≡_}
-use mathlib.Core.Bool.{Bool, true, false, _||_}
+use mathlib.Core.Bool.{Bool, true, false, _&&_, _||_}
 use mathlib.Core.List.{List, [], _∷_}
-use lib.Dec.{eqb}
-use lib.ListN.{length, getD}
-use Rattle.plan.specs.Layout.{nameIn, ownerSlot, isDname, countOf, recordAt, ownerAt}
+use lib.Dec.{ltb, eqb}
+use lib.ListN.{length, getD, take}
+use Rattle.octets.specs.Octets.{same}
+use Rattle.plan.specs.Layout.{ownerSlot, isDname, countOf, recordAt}
 use Rattle.plan.specs.Check.{firstFault}
 
--- the four octets from a place on as one number; what is past the end counts as zero
+-- the four octets from a place on as one number, the lowest first
 unfoldable pub wordAt : List ℕ → ℕ → ℕ
-wordAt xs i = getD xs i 0 * 16777216 + getD xs (i + 1) 0 * 65536 + getD xs (i + 2) 0 * 256 + getD xs (i + 3) 0
+wordAt s i = getD s i 0 + getD s (i + 1) 0 * 256 + getD s (i + 2) 0 * 65536 + getD s (i + 3) 0 * 16777216
 
--- the sum of the first k words, and the sum of the sums of the first 1, 2, .. k words, in which their order tells
-unfoldable pub sumTo : List ℕ → ℕ → ℕ
+-- the eight octets from a place on as one number
+unfoldable pub pairAt : List ℕ → ℕ → ℕ
 unfolding wordAt
-sumTo xs zero = 0
-sumTo xs (suc k) = sumTo xs k + wordAt xs (k * 4)
+pairAt s i = wordAt s i + wordAt s (i + 4) * 4294967296
 
-unfoldable pub sumsTo : List ℕ → ℕ → ℕ
+-- what word k adds to the sum of a slot: each has a factor of its own, so that the order of words tells
+unfoldable pub termAt : List ℕ → ℕ → ℕ
+unfolding wordAt
+termAt s k = wordAt s (k * 4) * (52361 + k * 7919)
+
+-- the sum of the first k words
+unfoldable pub sumTo : List ℕ → ℕ → ℕ
+unfolding termAt
+sumTo s zero = 0
+sumTo s (suc k) = sumTo s k + termAt s k
+
+-- the sum of a slot: of its first eight words where the name ends in them, since zeros follow it; else of all 64
+unfoldable pub sumOf : List ℕ → ℕ
 unfolding sumTo
-sumsTo xs zero = 0
-sumsTo xs (suc k) = sumsTo xs k + sumTo xs (suc k)
+sumOf s = elim (ltb (getD s 0 0) 32) [ true ↦ sumTo s 8 | false ↦ sumTo s 64 ]
 
--- the mark of a name: the whole words of its octets, and the word that ends it, mixed
+-- the mark of a slot: its sum, mixed
 unfoldable pub markOf : List ℕ → ℕ
-unfolding wordAt sumTo sumsTo
-markOf name = (wordAt name (length name - 4) + sumTo name (length name / 4) * 25471 + sumsTo name (length name / 4) * 40009) % 65521
+unfolding sumOf
+markOf s = (sumOf s / 4096 + sumOf s / 16777216 * 3 + sumOf s) % 65536
 
--- the mark of a DNAME's owner; 0 for any other record
+-- the first 32 octets of two slots are the same and hold their names whole
+unfoldable pub alikeOf : List ℕ → List ℕ → Bool
+unfolding same
+alikeOf a b = same (take 32 a) (take 32 b) && ltb (getD a 0 0) 32
+
+-- the mark of the owner's slot of a DNAME; 0 for any other record
 unfoldable pub markAt : List ℕ → ℕ → ℕ
-unfolding isDname recordAt nameIn ownerSlot markOf
-markAt t i = elim (isDname (recordAt t i)) [ true ↦ markOf (ownerAt t i) | false ↦ 0 ]
+unfolding isDname recordAt ownerSlot markOf
+markAt t i = elim (isDname (recordAt t i)) [ true ↦ markOf (ownerSlot (recordAt t i)) | false ↦ 0 ]
 
 -- the first n marks of a list are those of the table's records
 abbrev pub Marked : List ℕ → List ℕ → ℕ → Type 0

@@ -1,10 +1,13 @@
-// What only our own layers call: the fields of a record by its index, and the marks of names. Nobody else knows where a field stands.
+// What only our own layers call: the fields of a record by its index, and slots of names, compared and marked. Nobody else knows where a field stands.
 ghost use mathlib.Core.Path.{_≡_};
-ghost use Prim.Native.Nat.{_+_, _-_, _≤_, _<_};
+ghost use mathlib.Core.Bool.{true};
+ghost use Prim.Native.Nat.{_+_, _^_, _≤_, _<_};
 ghost use lib.ListN.{length, getD};
 ghost use lib.Seq.{paste};
-ghost use Rattle.plan.specs.Layout.{recordSize, nameRoom, slotSize, a6, typeOf, prefixOf, zeroOf, addressOf, ownerSlot, targetSlot, nameIn, recordOf, countOf, recordAt, typeAt, prefixAt, addressAt, ownerAt, targetAt};
-ghost use Rattle.plan.specs.Marks.{wordAt, markOf};
+ghost use Rattle.names.specs.Standard.{sameName, inStandardForm};
+ghost use Rattle.plan.specs.Layout.{recordSize, nameRoom, slotSize, a6, typeOf, prefixOf, zeroOf, addressOf, ownerSlot, targetSlot, nameIn, slotOf, recordOf, countOf, recordAt, typeAt, prefixAt, addressAt, ownerAt, targetAt};
+ghost use Rattle.plan.specs.Check.{targetless};
+ghost use Rattle.plan.specs.Marks.{wordAt, pairAt, termAt, sumTo, sumOf, markOf, alikeOf};
 ghost use Rattle.plan.specs.Part.{ownerWithin};
 use crate::Part;
 
@@ -137,6 +140,17 @@ pub fn target_slot(row: &[u8]) -> &[u8]
     &row[TARGET..RECORD]
 }
 
+// Whether a record leads to no name: an A6 record with prefix length 0.
+pub fn is_targetless(row: &[u8]) -> bool
+    requires { ⌜ length (now row) ≡ recordSize ⌝ }
+    ensures { λ r. ⌜ r ≡ targetless (now (row .entry)) ⌝ }
+{
+    if kind_of(row) != A6 {
+        return false;
+    }
+    prefix_of(row) == 0
+}
+
 // The name that a slot holds, and where the octets after it begin.
 pub fn name_in(slot: &[u8]) -> &[u8]
     requires { ⌜ length (now slot) ≡ slotSize ⌝ }
@@ -165,58 +179,145 @@ pub fn write_a6(
     requires { ⌜ (length (now owner) ≡ slotSize) × (length (now target) ≡ slotSize) × (to + recordSize ≤ length (now out)) ⌝ }
     ensures { λ _. ⌜ now (out .exit) ≡ paste (now (out .entry)) to (recordOf a6 prefix address (now (owner .entry)) (now (target .entry))) recordSize ⌝ }
 {
-    let head = [0u8, A6 as u8, prefix, 0u8];
+    write_record(A6, prefix, address, owner, target, out, to);
+}
+
+// A record of any type, of its fields, the names as slots, at a place of the output.
+pub fn write_record(
+    kind: u16,
+    prefix: u8,
+    address: [u8; 16],
+    owner: &[u8],
+    target: &[u8],
+    out: &mut [u8],
+    to: usize,
+)
+    requires { ⌜ (length (now owner) ≡ slotSize) × (length (now target) ≡ slotSize) × (to + recordSize ≤ length (now out)) ⌝ }
+    ensures { λ _. ⌜ now (out .exit) ≡ paste (now (out .entry)) to (recordOf kind prefix address (now (owner .entry)) (now (target .entry))) recordSize ⌝ }
+{
+    let head = [(kind / 256) as u8, (kind % 256) as u8, prefix, 0u8];
     octets::inside::copy(&head, 0, 4, out, to);
     octets::inside::copy(&address, 0, 16, out, to + ADDRESS);
     octets::inside::copy(owner, 0, 256, out, to + OWNER);
     octets::inside::copy(target, 0, 256, out, to + TARGET);
 }
 
-// A short number that equal names share: sums of their octets, four at a time.
-pub fn mark(name: &[u8]) -> u16
+// The slot of a name.
+pub fn slot_of(name: &[u8]) -> [u8; 256]
     requires { ⌜ length (now name) ≤ nameRoom ⌝ }
-    ensures { λ r. ⌜ r ≡ markOf (now (name .entry)) ⌝ }
+    ensures { λ r. ⌜ r ≡ slotOf (now (name .entry)) ⌝ }
 {
-    let n = name.len() / 4;
-    let mut one: usize = 0;
-    let mut two: usize = 0;
-    let mut k: usize = 0;
-    while k < n {
-        one += word(name, k * 4);
-        two += one;
+    let mut slot = [0u8; 256];
+    slot[0] = name.len() as u8;
+    octets::inside::copy(name, 0, name.len(), &mut slot, 1);
+    slot
+}
+
+// Whether two slots hold the same name.
+pub fn same(a: &[u8], b: &[u8]) -> bool
+    requires { ⌜ (length (now a) ≡ slotSize) × (length (now b) ≡ slotSize) ⌝ }
+    requires { ⌜ (inStandardForm (nameIn (now a)) ≡ true) × (inStandardForm (nameIn (now b)) ≡ true) ⌝ }
+    ensures { λ r. ⌜ r ≡ sameName (nameIn (now (a .entry))) (nameIn (now (b .entry))) ⌝ }
+{
+    if alike(a, b) {
+        return true;
+    }
+    names::equal(name_in(a), name_in(b))
+}
+
+// Whether the first 32 octets of two slots are the same and hold their names whole: most names that are the same are told by this alone.
+pub fn alike(a: &[u8], b: &[u8]) -> bool
+    requires { ⌜ (length (now a) ≡ slotSize) × (length (now b) ≡ slotSize) ⌝ }
+    ensures { λ r. ⌜ r ≡ alikeOf (now (a .entry)) (now (b .entry)) ⌝ }
+{
+    if pair(a, 0) != pair(b, 0) {
+        return false;
+    }
+    if pair(a, 8) != pair(b, 8) {
+        return false;
+    }
+    if pair(a, 16) != pair(b, 16) {
+        return false;
+    }
+    if pair(a, 24) != pair(b, 24) {
+        return false;
+    }
+    a[0] < 32
+}
+
+// A short number that the slots of one name share. The first 32 octets are enough for most names.
+pub fn mark(slot: &[u8]) -> u16
+    requires { ⌜ length (now slot) ≡ slotSize ⌝ }
+    ensures { λ r. ⌜ r ≡ markOf (now (slot .entry)) ⌝ }
+{
+    let sum = sum_of(slot);
+    ((sum / 4096 + sum / 16777216 * 3 + sum) % 65536) as u16
+}
+
+// The sum of the words that count: the first eight, and all of them where the name reaches past those.
+fn sum_of(slot: &[u8]) -> usize
+    requires { ⌜ length (now slot) ≡ slotSize ⌝ }
+    ensures { λ r. ⌜ (r ≡ sumOf (now (slot .entry))) × (r < 2 ^ 58) ⌝ }
+{
+    let front = first_sum(slot);
+    if slot[0] < 32 {
+        return front;
+    }
+    whole_sum(slot, front)
+}
+
+// The sum of the first eight words, without a loop, which is faster.
+fn first_sum(slot: &[u8]) -> usize
+    requires { ⌜ length (now slot) ≡ slotSize ⌝ }
+    ensures { λ r. ⌜ (r ≡ sumTo (now (slot .entry)) 8) × (r < 2 ^ 55) ⌝ }
+{
+    term(slot, 0)
+        + term(slot, 1)
+        + term(slot, 2)
+        + term(slot, 3)
+        + term(slot, 4)
+        + term(slot, 5)
+        + term(slot, 6)
+        + term(slot, 7)
+}
+
+// The sum of all words, from that of the first eight.
+fn whole_sum(slot: &[u8], front: usize) -> usize
+    requires { ⌜ (length (now slot) ≡ slotSize) × (front ≡ sumTo (now slot) 8) × (front < 2 ^ 55) ⌝ }
+    ensures { λ r. ⌜ (r ≡ sumTo (now (slot .entry)) 64) × (r < 2 ^ 58) ⌝ }
+{
+    let mut sum = front;
+    let mut k: usize = 8;
+    while k < 64 {
+        sum += term(slot, k);
         k += 1;
     }
-    ((last_word(name) + one * 25471 + two * 40009) % 65521) as u16
+    sum
 }
 
-// The four octets from a place on as one number.
-fn word(name: &[u8], i: usize) -> usize
-    requires { ⌜ i + 4 ≤ length (now name) ⌝ }
-    ensures { λ r. ⌜ (r ≡ wordAt (now (name .entry)) i) × (r < 4294967296) ⌝ }
+// What a word adds to the sum.
+fn term(slot: &[u8], k: usize) -> usize
+    requires { ⌜ (length (now slot) ≡ slotSize) × (k < 64) ⌝ }
+    ensures { λ r. ⌜ (r ≡ termAt (now (slot .entry)) k) × (r < 2 ^ 52) ⌝ }
 {
-    octets::wide(name[i]) * 16777216
-        + octets::wide(name[i + 1]) * 65536
-        + octets::wide(name[i + 2]) * 256
-        + octets::wide(name[i + 3])
+    word(slot, k * 4) * (52361 + k * 7919)
 }
 
-// The four octets that end a name; a shorter name is all of it, with zeros after it.
-fn last_word(name: &[u8]) -> usize
-    ensures { λ r. ⌜ (r ≡ wordAt (now (name .entry)) (length (now (name .entry)) - 4)) × (r < 4294967296) ⌝ }
+// The eight octets from a place on as one number, the lowest first.
+fn pair(slot: &[u8], i: usize) -> usize
+    requires { ⌜ i + 8 ≤ length (now slot) ⌝ }
+    ensures { λ r. ⌜ r ≡ pairAt (now (slot .entry)) i ⌝ }
 {
-    let n = name.len();
-    if 4 <= n {
-        return word(name, n - 4);
-    }
-    octet(name, 0) * 16777216 + octet(name, 1) * 65536 + octet(name, 2) * 256
+    word(slot, i) + word(slot, i + 4) * 4294967296
 }
 
-// One octet; 0 past the end.
-fn octet(name: &[u8], i: usize) -> usize
-    ensures { λ r. ⌜ (r ≡ getD (now (name .entry)) i 0) × (r < 256) ⌝ }
+// The four octets from a place on as one number, the lowest first, which is read at once.
+fn word(slot: &[u8], i: usize) -> usize
+    requires { ⌜ i + 4 ≤ length (now slot) ⌝ }
+    ensures { λ r. ⌜ (r ≡ wordAt (now (slot .entry)) i) × (r < 4294967296) ⌝ }
 {
-    if i < name.len() {
-        return octets::wide(name[i]);
-    }
-    0
+    octets::wide(slot[i])
+        + octets::wide(slot[i + 1]) * 256
+        + octets::wide(slot[i + 2]) * 65536
+        + octets::wide(slot[i + 3]) * 16777216
 }

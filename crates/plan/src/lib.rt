@@ -5,7 +5,7 @@ ghost use Prim.Native.Nat.{_≤_, _<_};
 ghost use lib.ListN.{length};
 ghost use Rattle.plan.specs.First.{some};
 ghost use Rattle.plan.specs.Layout.{recordSize, maxRecords, slotSize, isDname, countOf, recordAt};
-ghost use Rattle.plan.specs.Check.{slotGood, typeGood, prefixGood, addressGood, targetless, targetGood, faultOf, firstFault, twin, repeats, firstRepeat, checkAnswer};
+ghost use Rattle.plan.specs.Check.{slotGood, typeGood, prefixGood, addressGood, targetGood, faultOf, firstFault, twin, repeats, firstRepeat, checkAnswer};
 ghost use Rattle.plan.specs.Marks.{markAt, Ready, among};
 ghost use Rattle.plan.specs.Part.{IsPart, emptyPart, ownerPart};
 
@@ -159,21 +159,10 @@ fn target_good(row: &[u8]) -> bool
     ensures { λ r. ⌜ r ≡ targetGood (now (row .entry)) ⌝ }
 {
     let slot = inside::target_slot(row);
-    if is_targetless(row) {
+    if inside::is_targetless(row) {
         return octets::zeros::is_blank(slot, 0);
     }
     slot_good(slot)
-}
-
-// Whether a record leads to no name: an A6 record with prefix length 0.
-fn is_targetless(row: &[u8]) -> bool
-    requires { ⌜ length (now row) ≡ recordSize ⌝ }
-    ensures { λ r. ⌜ r ≡ targetless (now (row .entry)) ⌝ }
-{
-    if inside::kind_of(row) != inside::A6 {
-        return false;
-    }
-    inside::prefix_of(row) == 0
 }
 
 // Whether a slot holds a name in standard form that fills its length, and zeros after it.
@@ -214,7 +203,7 @@ fn mark_at(table: &[u8], index: usize) -> u16
     if inside::kind(table, index) != inside::DNAME {
         return 0;
     }
-    inside::mark(inside::owner(table, index))
+    inside::mark(inside::owner_slot(inside::row(table, index)))
 }
 
 // Whether record j is a DNAME whose owner an earlier DNAME has: names are compared only where their marks agree.

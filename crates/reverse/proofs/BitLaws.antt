@@ -5,19 +5,16 @@ use mathlib.Core.Bool.{Bool, true, false}
 use mathlib.Core.List.{List, [], _∷_, _++_, append-nil, head-eq-of-cons-eq, tail-eq-of-cons-eq}
 use lib.Dec.{eqb, ltb}
 use lib.ListN.{length, getD, take, drop}
-use lib.Seq.{take-append-le, take-append-add, take-at, drop-cons}
+use lib.Seq.{take-nil, take-append-le, take-append-add, take-at, drop-cons}
 use lib.Pow.{shr-shr, shr-lt, mod-pow-add}
 use native.Mathlib.Omega.{arith}
 use native.Mathlib.Nat.{mod-eq-of-lt}
 use borrow.Author.Tests.{eq-eqb, eqb-true, eqb-false, ltb-true, ltb-false}
 use Rattle.octets.specs.Bits.{bitsOf, unpack}
 use Rattle.octets.specs.Octets.{same}
-use Rattle.octets.proofs.BitLaws.{bits-length, bits-split, unpack-zero}
+use Rattle.octets.proofs.BitLaws.{bits-length, bits-split, unpack-zero, unpack-octet}
+use Rattle.octets.proofs.UnpackLaws.{unpack-top}
 use Rattle.octets.proofs.SameLaws.{same-eq, same-refl}
-
-take-nil : (q : ℕ) → _≡_ {A = List ℕ} (take q []) []
-take-nil zero = refl
-take-nil (suc q) = refl
 
 -- the first q of n bits are q bits of the same octets
 pub unpack-first : (q n : ℕ) (xs : List ℕ) → q ≤ n → take q (unpack n xs) ≡ unpack q xs
@@ -77,16 +74,8 @@ bits-equal (suc m) x y e =
 bits-differ : (m x y : ℕ) → x < 2 ^ m → y < 2 ^ m → (x ≡ y → ⊥) → bitsOf m x ≡ bitsOf m y → ⊥
 bits-differ m x y p q h e = h (sym (mod-eq-of-lt p) ∙ bits-equal m x y e ∙ mod-eq-of-lt q)
 
-pub unpack-octet : (n v : ℕ) (w : List ℕ) → 8 ≤ n → unpack n (v ∷ w) ≡ bitsOf 8 (v / 2 ^ 0) ++ unpack (n - 8) w
-unfolding unpack
-unpack-octet n v w h = let m : min 8 n ≡ 8 = omega arith in ap (λ (i : ℕ). bitsOf i (v / 2 ^ (8 - i)) ++ unpack (n - 8) w) m
-
 unpack-last : (n v : ℕ) (w : List ℕ) → n < 8 → unpack n (v ∷ w) ≡ bitsOf n (v / 2 ^ (8 - n)) ++ []
-unfolding unpack
-unpack-last n v w h =
-    let m : min 8 n ≡ n = omega arith in
-    let z : n - 8 ≡ 0 = omega arith in
-    ap (λ (i : ℕ). bitsOf i (v / 2 ^ (8 - i)) ++ unpack (n - 8) w) m ∙ ap (λ (i : ℕ). bitsOf n (v / 2 ^ (8 - n)) ++ unpack i w) z ∙ ap (λ (ys : List ℕ). bitsOf n (v / 2 ^ (8 - n)) ++ ys) (unpack-zero w)
+unpack-last n v w h = unpack-top n v w h ∙ sym (append-nil (bitsOf n (v / 2 ^ (8 - n))))
 
 -- bits compared octet by octet
 module _ (a b : List ℕ) (x y n : ℕ) (p : x < length a) (q : y < length b) where
@@ -101,13 +90,13 @@ module _ (a b : List ℕ) (x y n : ℕ) (p : x < length a) (q : y < length b) wh
       let c : x + 1 ≡ suc x = omega arith in
       let d : y + 1 ≡ suc y = omega arith in
       rw (c, d, drop-cons a x 0 p, drop-cons b y 0 q, unpack-octet n u (drop (suc x) a) h, unpack-octet n v (drop (suc y) b) h, e)
-      (same-front (bitsOf 8 (v / 2 ^ 0)) (unpack (n - 8) (drop (suc x) a)) (unpack (n - 8) (drop (suc y) b)))
+      (same-front (bitsOf 8 v) (unpack (n - 8) (drop (suc x) a)) (unpack (n - 8) (drop (suc y) b)))
 
   pub octet-off : 8 ≤ n → u < 256 → v < 256 → (u ≡ v → ⊥) → same (unpack n (drop x a)) (unpack n (drop y b)) ≡ false
   octet-off h s t e =
       rw (drop-cons a x 0 p, drop-cons b y 0 q, unpack-octet n u (drop (suc x) a) h, unpack-octet n v (drop (suc y) b) h)
-      (same-differ (bitsOf 8 (u / 2 ^ 0)) (bitsOf 8 (v / 2 ^ 0)) (unpack (n - 8) (drop (suc x) a)) (unpack (n - 8) (drop (suc y) b))
-      (bits-length 8 (u / 2 ^ 0) ∙ sym (bits-length 8 (v / 2 ^ 0))) (bits-differ 8 (u / 2 ^ 0) (v / 2 ^ 0) (omega arith) (omega arith) (λ i. e (omega arith))))
+      (same-differ (bitsOf 8 u) (bitsOf 8 v) (unpack (n - 8) (drop (suc x) a)) (unpack (n - 8) (drop (suc y) b))
+      (bits-length 8 u ∙ sym (bits-length 8 v)) (bits-differ 8 u v (omega arith) (omega arith) (λ i. e (omega arith))))
 
   pub octet-last : 0 < n → n < 8 → u < 256 → v < 256 → eqb (u / 2 ^ (8 - n)) (v / 2 ^ (8 - n)) ≡ same (unpack n (drop x a)) (unpack n (drop y b))
   unfolding same

@@ -1,21 +1,17 @@
 -- Laws of bits from the middle of a label on. Assumes nothing.
 use Prim.Native.Nat.{ℕ, zero, suc, _+_, _-_, _*_, _/_, _%_, _^_, _≤_, _<_, min}
-use mathlib.Core.Path.{_≡_, refl, ap, _∙_, sym}
+use mathlib.Core.Path.{_≡_, ap, _∙_, sym}
 use mathlib.Core.List.{List, [], _∷_, _++_, append-nil, append-assoc}
 use lib.ListN.{length, getD, drop, length-drop}
-use lib.Seq.{drop-append-add, drop-at, drop-cons, drop-drop}
-use lib.Pow.{field, mod-mod-pow, pow-pos, shr-lt}
+use lib.Seq.{drop-nil, drop-append-add, drop-at, drop-cons, drop-drop}
+use lib.Pow.{field, pow-pos, shr-lt}
 use native.Mathlib.Nat.{mod-lt, zero-add}
 use native.Mathlib.Omega.{arith}
 use Rattle.octets.specs.Bits.{bitsOf, unpack}
 use Rattle.octets.specs.Packing.{Pushed}
 use Rattle.octets.specs.declared.inside.Packer.{Packer}
-use Rattle.octets.proofs.BitLaws.{bits-length, bits-split, unpack-zero, unpack-length}
-use Rattle.reverse.proofs.BitLaws.{unpack-octet}
-
-drop-nil : (q : ℕ) → _≡_ {A = List ℕ} (drop q []) []
-drop-nil zero = refl
-drop-nil (suc q) = refl
+use Rattle.octets.proofs.BitLaws.{bits-length, bits-split, unpack-zero, unpack-octet, unpack-length}
+use Rattle.octets.proofs.PackingLaws.{bits-mod}
 
 -- whole octets are passed over
 unpack-skip : (i s n : ℕ) (xs : List ℕ) → drop (8 * i + s) (unpack (8 * i + s + n) xs) ≡ drop s (unpack (s + n) (drop i xs))
@@ -25,8 +21,8 @@ unpack-skip zero s n xs =
     rw a
 unpack-skip (suc i) s n [] = drop-nil (8 * suc i + s) ∙ sym (drop-nil s)
 unpack-skip (suc i) s n (x ∷ xs) =
-    let b = bitsOf 8 (x / 2 ^ 0) in
-    let l = bits-length 8 (x / 2 ^ 0) in
+    let b = bitsOf 8 x in
+    let l = bits-length 8 x in
     let k : 8 * suc i + s ≡ length b + (8 * i + s) = omega arith in
     let m : 8 * suc i + s + n - 8 ≡ 8 * i + s + n = omega arith in
     ap (drop (8 * suc i + s)) (unpack-octet (8 * suc i + s + n) x xs (omega arith))
@@ -34,17 +30,6 @@ unpack-skip (suc i) s n (x ∷ xs) =
     ∙ ap (λ (q : ℕ). drop q (b ++ unpack (8 * i + s + n) xs)) k
     ∙ drop-append-add b (unpack (8 * i + s + n) xs) (8 * i + s)
     ∙ unpack-skip i s n xs
-
--- the lowest m bits do not depend on higher ones
-bits-mod : (m j y : ℕ) → bitsOf m (y % 2 ^ (m + j)) ≡ bitsOf m y
-unfolding bitsOf
-bits-mod zero j y = refl
-bits-mod (suc m) j y =
-    let e : suc m + j ≡ j + 1 + m = omega arith in
-    let f : suc m + j ≡ m + suc j = omega arith in
-    let h : y % 2 ^ (suc m + j) / 2 ^ m % 2 ≡ y / 2 ^ m % 2 = ap (λ (k : ℕ). y % 2 ^ k / 2 ^ m % 2) e ∙ ap (λ (k : ℕ). k % 2) (field y (j + 1) m) ∙ mod-mod-pow (y / 2 ^ m) j 1 in
-    let t : bitsOf m (y % 2 ^ (suc m + j)) ≡ bitsOf m y = ap (λ (k : ℕ). bitsOf m (y % 2 ^ k)) f ∙ bits-mod m (suc j) y in
-    ap (λ (v : ℕ). v ∷ bitsOf m (y % 2 ^ (suc m + j))) h ∙ ap (λ (bs : List ℕ). y / 2 ^ m % 2 ∷ bs) t
 
 -- bits inside one octet
 part-inside : (s n x : ℕ) (xs : List ℕ) → s + n ≤ 8 → drop s (unpack (s + n) (x ∷ xs)) ≡ bitsOf n (x % 2 ^ (8 - s) / 2 ^ (8 - s - n))
@@ -56,12 +41,11 @@ part-inside s n x xs h =
     let y = x / 2 ^ (8 - (s + n)) in
     let a : 8 - (s + n) ≡ k = omega arith in
     let b : 8 - s ≡ n + k = omega arith in
-    let d : n + 0 ≡ n = omega arith in
     let u : unpack (s + n) (x ∷ xs) ≡ bitsOf (s + n) y ++ [] =
     ap (λ (i : ℕ). bitsOf i (x / 2 ^ (8 - i)) ++ unpack (s + n - 8) xs) m ∙ ap (λ (i : ℕ). bitsOf (s + n) y ++ unpack i xs) z ∙ ap (λ (ys : List ℕ). bitsOf (s + n) y ++ ys) (unpack-zero xs) in
     let w : drop s (bitsOf (s + n) y) ≡ bitsOf n y = ap (drop s) (bits-split s n y) ∙ drop-at (bitsOf s (y / 2 ^ n)) (bitsOf n y) s (bits-length s (y / 2 ^ n)) in
-    let g : x % 2 ^ (8 - s) / 2 ^ k ≡ x / 2 ^ k % 2 ^ (n + 0) = ap (λ (i : ℕ). x % 2 ^ i / 2 ^ k) b ∙ field x n k ∙ ap (λ (i : ℕ). x / 2 ^ k % 2 ^ i) (sym d) in
-    ap (drop s) (u ∙ append-nil (bitsOf (s + n) y)) ∙ w ∙ ap (λ (i : ℕ). bitsOf n (x / 2 ^ i)) a ∙ sym (bits-mod n 0 (x / 2 ^ k)) ∙ ap (bitsOf n) (sym g)
+    let g : x % 2 ^ (8 - s) / 2 ^ k ≡ x / 2 ^ k % 2 ^ n = ap (λ (i : ℕ). x % 2 ^ i / 2 ^ k) b ∙ field x n k in
+    ap (drop s) (u ∙ append-nil (bitsOf (s + n) y)) ∙ w ∙ ap (λ (i : ℕ). bitsOf n (x / 2 ^ i)) a ∙ bits-mod n n (x / 2 ^ k) (omega arith) ∙ ap (bitsOf n) (sym g)
 
 -- the three ways to go on after `skip` bits
 module _ (name : List ℕ) (a skip n : ℕ) where
@@ -88,17 +72,14 @@ module _ (name : List ℕ) (a skip n : ℕ) where
       let v = getD name i 0 in
       let m = 8 - s in
       let w = drop (suc i) name in
-      let y = v / 2 ^ 0 in
       let b : List ℕ = unpack (n - m) w in
       let e : 8 ≡ s + m = omega arith in
       let t : s + n - 8 ≡ n - m = omega arith in
       let g : i + 1 ≡ suc i = omega arith in
-      let d : m + 0 ≡ m = omega arith in
-      let z : y ≡ v = omega arith in
-      let o : drop s (unpack (s + n) (v ∷ w)) ≡ bitsOf m y ++ b =
-      ap (drop s) (unpack-octet (s + n) v w (omega arith) ∙ ap (λ (q : ℕ). bitsOf 8 y ++ unpack q w) t ∙ ap (λ (q : ℕ). bitsOf q y ++ b) e ∙ ap (λ (ys : List ℕ). ys ++ b) (bits-split s m y) ∙ append-assoc (bitsOf s (y / 2 ^ m)) (bitsOf m y) b)
-      ∙ drop-at (bitsOf s (y / 2 ^ m)) (bitsOf m y ++ b) s (bits-length s (y / 2 ^ m)) in
-      let f : bitsOf m (v % 2 ^ m) ≡ bitsOf m y = ap (λ (q : ℕ). bitsOf m (v % 2 ^ q)) (sym d) ∙ bits-mod m 0 v ∙ ap (bitsOf m) (sym z) in
+      let o : drop s (unpack (s + n) (v ∷ w)) ≡ bitsOf m v ++ b =
+      ap (drop s) (unpack-octet (s + n) v w (omega arith) ∙ ap (λ (q : ℕ). bitsOf 8 v ++ unpack q w) t ∙ ap (λ (q : ℕ). bitsOf q v ++ b) e ∙ ap (λ (ys : List ℕ). ys ++ b) (bits-split s m v) ∙ append-assoc (bitsOf s (v / 2 ^ m)) (bitsOf m v) b)
+      ∙ drop-at (bitsOf s (v / 2 ^ m)) (bitsOf m v ++ b) s (bits-length s (v / 2 ^ m)) in
+      let f : bitsOf m (v % 2 ^ m) ≡ bitsOf m v = sym (bits-mod m m v (omega arith)) in
       ap (λ (q : ℕ). bitsOf m (v % 2 ^ m) ++ unpack (n - m) (drop q name)) g ∙ ap (λ (ys : List ℕ). ys ++ b) f ∙ sym (reach ∙ ap (λ (ys : List ℕ). drop s (unpack (s + n) ys)) (drop-cons name i 0 h) ∙ o)
 
 -- bits from the first on

@@ -199,9 +199,7 @@ pub fn deep(random: &mut Random, records: usize, tangle: &mut Tangle) {
         let step = random.below(steps);
         made[step] = a6_record(&names[step], 128, 0, &names[(step + 1) % steps]);
     }
-    for at in (1..made.len()).rev() {
-        made.swap(at, random.below(at + 1));
-    }
+    random.shuffle(&mut made);
     table.clear();
     table.extend(made.concat());
 }

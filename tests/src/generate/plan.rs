@@ -245,6 +245,21 @@ pub fn any_table(random: &mut Random, made: &mut Name, table: &mut Vec<u8>) {
     }
 }
 
+/// A table in order, and tables made of it that are not, with the numbers that they earn.
+pub fn earning(good: &[u8]) -> Vec<(Vec<u8>, u32)> {
+    let shared = dname_record(&name("s.a"), &name("t.a"));
+    let mut bad = good.to_vec();
+    bad[3] = 1;
+    vec![
+        (good.to_vec(), 0),
+        (good[1..].to_vec(), 1),
+        (good[..good.len() - 1].to_vec(), 1),
+        (good.repeat(MOST * RECORD / good.len() + 1), 1),
+        (bad, 2),
+        ([good, &shared, &shared].concat(), 3),
+    ]
+}
+
 /// Damages a table in order now and then: its length, a record, two DNAMEs with one owner.
 pub fn spoil(random: &mut Random, made: &mut Name, table: &mut Vec<u8>) {
     match random.below(24) {

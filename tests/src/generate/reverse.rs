@@ -95,9 +95,7 @@ pub fn walk(random: &mut Random, made: &mut Name, walk: &mut Walk) {
             units = next;
         }
     }
-    for at in (1..dnames.len()).rev() {
-        dnames.swap(at, random.below(at + 1));
-    }
+    random.shuffle(&mut dnames);
     table.clear();
     for (owner, target) in &dnames {
         if random.once_in(12) {

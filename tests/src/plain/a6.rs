@@ -1,6 +1,7 @@
 //! A6 data (01, A6 data) bit by bit.
 
 use super::names::{self, Unit};
+use super::{answer, demand, Answer};
 
 /// What A6 data holds: the prefix length, 128 bits of which the first are zero, and the prefix name's units.
 #[derive(Clone, Debug, PartialEq)]
@@ -83,28 +84,18 @@ pub fn hold(held: &[u8]) -> Result<Value, u32> {
 
 /// The answer of `a6plan_read` for a value of this many octets.
 pub fn read_answer(data: &[u8], value: usize) -> (u32, Vec<u8>) {
-    if value != 273 {
-        return (5, vec![0; value]);
-    }
-    match read(data) {
-        Ok(read) => (0, held(&read)),
-        Err(number) => (number, vec![0; 273]),
-    }
+    let given = demand(5, value == 273).and_then(|_| read(data));
+    given.map_or_else(|number| (number, vec![0; value]), |read| (0, held(&read)))
 }
 
 /// The answer of `a6plan_write` for an output and figures of these lengths.
-pub fn write_answer(value: &[u8], out: usize, figures: usize) -> (u32, Vec<u8>, Vec<u32>) {
-    let refusal = |number| (number, vec![0; out], vec![0; figures]);
-    if value.len() != 273 || figures != 2 {
-        return refusal(5);
-    }
-    match hold(value).map(|value| data(&value)) {
-        Err(number) => refusal(number),
-        Ok(data) if data.len() > out => refusal(7),
-        Ok(mut data) => {
-            let written = data.len() as u32;
-            data.resize(out, 0);
-            (0, data, vec![written, 0])
-        }
-    }
+pub fn write_answer(value: &[u8], out: usize, figures: usize) -> Answer {
+    let given = || {
+        demand(5, value.len() == 273 && figures == 2)?;
+        let data = data(&hold(value)?);
+        demand(7, data.len() <= out)?;
+        let written = data.len() as u32;
+        Ok((data, [written, 0]))
+    };
+    answer(given(), out, figures)
 }

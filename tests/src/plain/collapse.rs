@@ -1,7 +1,7 @@
 //! Collapse (01, Collapse of a name X), record by record and bit by bit.
 
 use super::names::{self, Unit};
-use super::{plan, Answer};
+use super::{answer, demand, plan, Answer};
 
 /// A record: its octets and what they say.
 struct Record<'a> {
@@ -89,24 +89,16 @@ impl Plan<'_> {
 
 /// The answer of `a6plan_collapse` for an output and figures of these lengths.
 pub fn collapse(table: &[u8], name: &[u8], out: usize, figures: usize) -> Answer {
-    let refusal = |number| (number, vec![0; out], vec![0; figures]);
-    let number = plan::check(table);
-    if number != 0 {
-        return refusal(number);
-    }
-    let Some(name) = names::whole(name) else { return refusal(4) };
-    if !out.is_multiple_of(532) || figures != 2 {
-        return refusal(5);
-    }
-    let plan = Plan::new(table);
-    if plan.is_reviving(&name) {
-        return refusal(9);
-    }
-    let mut folded = plan.fold(&name);
-    let records = folded.len() / 532;
-    if records > out / 532 || records > 1024 {
-        return refusal(7);
-    }
-    folded.resize(out, 0);
-    (0, folded, vec![records as u32, 0])
+    let given = || {
+        plan::in_order(table)?;
+        let name = names::whole(name).ok_or(4_u32)?;
+        demand(5, out.is_multiple_of(532) && figures == 2)?;
+        let plan = Plan::new(table);
+        demand(9, !plan.is_reviving(&name))?;
+        let folded = plan.fold(&name);
+        let records = folded.len() / 532;
+        demand(7, folded.len() <= out && records <= 1024)?;
+        Ok((folded, [records as u32, 0]))
+    };
+    answer(given(), out, figures)
 }

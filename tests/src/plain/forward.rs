@@ -2,7 +2,7 @@
 //! and the addresses of all finite chains, repeats allowed, as a fixed point.
 
 use super::names::{self, Unit};
-use super::{plan, Answer};
+use super::{answer, demand, plan, Answer};
 use std::collections::{BTreeSet, HashSet};
 
 /// An A6 record. Names are numbers in the list of those in the table.
@@ -126,27 +126,18 @@ impl Graph {
     }
 }
 
-/// The answer of `a6plan_lookup` for an output and figures of these lengths. None where the work passes `most` chains
-/// and the limit does not settle it.
-pub fn lookup(table: &[u8], name: &[u8], limit: u32, out: usize, figures: usize, most: usize) -> Option<Answer> {
-    let refusal = |number| Some((number, vec![0; out], vec![0; figures]));
-    let number = plan::check(table);
-    if number != 0 {
-        return refusal(number);
-    }
-    let Some(name) = names::whole(name) else { return refusal(4) };
-    if !out.is_multiple_of(16) || figures != 2 {
-        return refusal(5);
-    }
-    let graph = Graph::new(table);
-    let Some((work, _)) = graph.chains(&name, most.min(limit as usize)) else {
-        return if limit as usize <= most { refusal(6) } else { None };
+/// The answer of `a6plan_lookup` for an output and figures of these lengths. The limit is one that counting can reach.
+pub fn lookup(table: &[u8], name: &[u8], limit: u32, out: usize, figures: usize) -> Answer {
+    let given = || {
+        plan::in_order(table)?;
+        let name = names::whole(name).ok_or(4_u32)?;
+        demand(5, out.is_multiple_of(16) && figures == 2)?;
+        let graph = Graph::new(table);
+        let (work, _) = graph.chains(&name, limit as usize).ok_or(6_u32)?;
+        let addresses = graph.addresses(&name);
+        demand(7, addresses.len() <= out / 16)?;
+        let octets = addresses.iter().flat_map(|address| address.to_be_bytes()).collect();
+        Ok((octets, [addresses.len() as u32, work as u32]))
     };
-    let addresses = graph.addresses(&name);
-    if addresses.len() > out / 16 {
-        return refusal(7);
-    }
-    let mut octets: Vec<u8> = addresses.iter().flat_map(|address| address.to_be_bytes()).collect();
-    octets.resize(out, 0);
-    Some((0, octets, vec![addresses.len() as u32, work as u32]))
+    answer(given(), out, figures)
 }

@@ -1,5 +1,7 @@
 //! Names (01, Names) as lists of units.
 
+use super::{answer, demand, Answer};
+
 /// One unit of a name. Names list theirs lowest first.
 #[derive(Clone, Debug, PartialEq)]
 pub enum Unit {
@@ -117,16 +119,13 @@ pub fn whole(name: &[u8]) -> Option<Vec<Unit>> {
 }
 
 /// The answer of `a6plan_standard` for an output and figures of these lengths.
-pub fn standard(name: &[u8], out: usize, figures: usize) -> (u32, Vec<u8>, Vec<u32>) {
-    let refusal = |number| (number, vec![0; out], vec![0; figures]);
-    match whole(name) {
-        None => refusal(4),
-        Some(_) if out != 255 || figures != 2 => refusal(5),
-        Some(units) => {
-            let mut octets = encode(&units);
-            let length = octets.len() as u32;
-            octets.resize(255, 0);
-            (0, octets, vec![length, 0])
-        }
-    }
+pub fn standard(name: &[u8], out: usize, figures: usize) -> Answer {
+    let given = || {
+        let units = whole(name).ok_or(4_u32)?;
+        demand(5, out == 255 && figures == 2)?;
+        let octets = encode(&units);
+        let length = octets.len() as u32;
+        Ok((octets, [length, 0]))
+    };
+    answer(given(), out, figures)
 }

@@ -70,6 +70,14 @@ pub fn check(table: &[u8]) -> u32 {
     0
 }
 
+/// The table is in order, or the number that it earns.
+pub fn in_order(table: &[u8]) -> Result<(), u32> {
+    match check(table) {
+        0 => Ok(()),
+        number => Err(number),
+    }
+}
+
 /// The answer of `a6plan_owner` for figures of this length.
 pub fn owner(table: &[u8], index: usize, figures: usize) -> (u32, Vec<u32>) {
     if figures != 2 {

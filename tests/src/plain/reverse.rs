@@ -1,7 +1,7 @@
 //! Reverse names (01, Reverse names) as lists of units.
 
 use super::names::{self, Unit};
-use super::{plan, Answer};
+use super::{answer, demand, plan, Answer};
 
 /// The units of the name that stands for an address: its bits, the lowest first, then IP6 and ARPA.
 pub fn start(address: &[u8]) -> Vec<Unit> {
@@ -57,24 +57,14 @@ pub fn walk(dnames: &[Dname], start: Vec<Unit>, limit: u8) -> Result<(Vec<Unit>,
 
 /// The answer of `a6plan_reverse` for an output and figures of these lengths.
 pub fn lookup(table: &[u8], address: &[u8], limit: u8, out: usize, figures: usize) -> Answer {
-    let refusal = |number| (number, vec![0; out], vec![0; figures]);
-    let number = plan::check(table);
-    if number != 0 {
-        return refusal(number);
-    }
-    if address.len() != 16 {
-        return refusal(4);
-    }
-    if out != 255 || figures != 2 {
-        return refusal(5);
-    }
-    match walk(&dnames(table), start(address), limit) {
-        Err(number) => refusal(number),
-        Ok((name, rewrites)) => {
-            let mut octets = names::encode(&name);
-            let length = octets.len() as u32;
-            octets.resize(255, 0);
-            (0, octets, vec![length, rewrites])
-        }
-    }
+    let given = || {
+        plan::in_order(table)?;
+        demand(4, address.len() == 16)?;
+        demand(5, out == 255 && figures == 2)?;
+        let (name, rewrites) = walk(&dnames(table), start(address), limit)?;
+        let octets = names::encode(&name);
+        let length = octets.len() as u32;
+        Ok((octets, [length, rewrites]))
+    };
+    answer(given(), out, figures)
 }

@@ -1,18 +1,20 @@
 -- `collapse::link` meets its contract. Assumes nothing.
 use mathlib.Core.Path.{ap, _∙_}
-use Rattle.plan.specs.Layout.{recordAt}
-use Rattle.plan.proofs.RecordLaws.{owner-short}
+use Rattle.plan.specs.Layout.{ownerSlot}
 use Rattle.collapse.specs.Running.{bucketOf}
 use Rattle.collapse.proofs.LinkLaws.{linked-more}
 use borrow.Author.Needs.{needs}
 use Rattle.collapse.proofs.link.Statement.{statement}
 use Rattle.collapse.proofs.link.Tie as tie
 
-owner-requires : tie.Need-owner-requires
-owner-requires c κs = search needs
+row-requires : tie.Need-row-requires
+row-requires c κs = search needs
+
+owner-slot-requires : tie.Need-owner-slot-requires
+owner-slot-requires c κs = search needs
 
 bucket-requires : tie.Need-bucket-requires
-bucket-requires c κs = rw (c .owner .ensures) (owner-short (recordAt (c .before .before .before .before .args .table .now) (c .before .before .before .before .args .i)))
+bucket-requires c κs = search needs
 
 mul-next : tie.Need-mul-next
 mul-next c = search needs
@@ -43,15 +45,18 @@ same-length-2 c = search needs
 
 returns : tie.Need-returns
 returns c =
-    let a = c .before .before .before .before .before .before .args in
-    let w = c .before .before .before .before .before .before .pre in
-    linked-more (a .table .now) (a .heads .now) (a .next .now) (a .i) (c .before .bucket .result) (w .0) (w .1) (c .before .bucket .ensures .0 ∙ ap bucketOf (c .before .before .owner .ensures)) (c .before .bucket .ensures .1) (w .2)
+    let a = c .before .before .before .before .before .before .before .args in
+    let w = c .before .before .before .before .before .before .before .pre in
+    let b = c .before .bucket in
+    let e = b .ensures .0 ∙ ap bucketOf (c .before .before .owner-slot .ensures .0 ∙ ap ownerSlot (c .before .before .before .row .ensures .0)) in
+    linked-more (a .table .now) (a .heads .now) (a .next .now) (a .i) (b .result) (w .0) (w .1) e (b .ensures .1) (w .2)
 
 pub link-spec : {M : Type 1} → statement M
 link-spec =
     tie.close
     (tie.spec
-    owner-requires
+    row-requires
+    owner-slot-requires
     bucket-requires
     mul-next
     slice-read-next

@@ -5,19 +5,20 @@ use Prim.Native.Nat.{ℕ, _+_, _-_, _≤_, _<_, min}
 use mathlib.Core.List.{List}
 use borrow.Author.Needs.{needs}
 use lib.ListN.{length, getD}
+use denote.Ref.{now}
 use Rattle.chains.specs.Lists.{upTo}
-use Rattle.plan.specs.Layout.{maxRecords, countOf, recordAt, ownerAt, targetAt}
+use Rattle.plan.specs.Layout.{maxRecords, ownerSlot, targetSlot, countOf, recordAt}
 use Rattle.plan.proofs.OrderLaws.{order-count}
 use Rattle.collapse.specs.Fold.{madeOf}
 use Rattle.collapse.specs.Running.{bucketOf, firstIn, stored}
-use Rattle.collapse.proofs.LinkLaws.{target-short, walked}
+use Rattle.collapse.proofs.LinkLaws.{walked}
 use Rattle.collapse.proofs.RunningLaws.{few-turns, made-few, count-start, stored-start, count-turn, stored-turn}
 use Rattle.collapse.proofs.put_each.Statement.{statement}
 use Rattle.collapse.proofs.put_each.Tie as tie
 
 abbrev Inv-loop : tie.InvT-loop
 Inv-loop table i heads next out₀ n count b m₀ j₀ out m j =
-    (count ≡ countOf table) × (b ≡ bucketOf (targetAt table i)) × (j ≤ maxRecords) × (j < countOf table → bucketOf (ownerAt table j) ≡ bucketOf (targetAt table i))
+    (count ≡ countOf table) × (b ≡ bucketOf (targetSlot (recordAt table i))) × (j ≤ maxRecords) × (j < countOf table → bucketOf (ownerSlot (recordAt table j)) ≡ bucketOf (targetSlot (recordAt table i)))
     × (m ≡ n + length (upTo (min j (countOf table)) (madeOf table (recordAt table i)))) × (out ≡ stored out₀ n (upTo (min j (countOf table)) (madeOf table (recordAt table i))))
     × (length out ≡ length out₀)
 
@@ -27,28 +28,35 @@ abbrev μ-loop : tie.MeasureT-loop
 count-requires : tie.Need-count-requires Inv-loop μ-loop
 count-requires c κs = search needs
 
-target-requires : tie.Need-target-requires Inv-loop μ-loop
-target-requires c κs = c .before .before .before .before .before .pre .1
+-- the slot of the target
+slot-is : (c : tie.After-target-slot Inv-loop μ-loop) → now (c .target-slot .result) ≡ targetSlot (recordAt (c .before .before .before .before .before .before .before .args .table .now) (c .before .before .before .before .before .before .before .args .i))
+slot-is c = c .target-slot .ensures .0 ∙ ap targetSlot (c .before .row .ensures .0)
+
+row-requires : tie.Need-row-requires Inv-loop μ-loop
+row-requires c κs = c .before .before .before .before .before .pre .1
+
+target-slot-requires : tie.Need-target-slot-requires Inv-loop μ-loop
+target-slot-requires c κs = c .row .ensures .1
 
 bucket-requires : tie.Need-bucket-requires Inv-loop μ-loop
-bucket-requires c κs = rw (c .target .ensures) (target-short (recordAt (c .before .before .before .before .before .before .args .table .now) (c .before .before .before .before .before .before .args .i)))
+bucket-requires c κs = c .target-slot .ensures .1
 
 mul-j : tie.Need-mul-j Inv-loop μ-loop
 mul-j c = omega (arith, c .bucket .ensures .1)
 
 shared-slice-read-j : tie.Need-shared-slice-read-j Inv-loop μ-loop
-shared-slice-read-j c = omega (arith, c .before .bucket .ensures .1, c .before .before .before .before .before .before .before .before .pre .4 .buckets)
+shared-slice-read-j c = omega (arith, c .before .bucket .ensures .1, c .before .before .before .before .before .before .before .before .before .pre .4 .buckets)
 
 -- where the first turn starts
-start : (c : tie.After-shared-slice-known4 Inv-loop μ-loop) → let a = c .before .before .before .before .before .before .before .before .args in let t = a .table .now in let j = getD (a .heads .now) (c .before .bucket .result) 0 in
-    (0 ≤ j) × (j ≤ maxRecords) × (j < countOf t → bucketOf (ownerAt t j) ≡ bucketOf (targetAt t (a .i)))
+start : (c : tie.After-shared-slice-known4 Inv-loop μ-loop) → let a = c .before .before .before .before .before .before .before .before .before .args in let t = a .table .now in let j = getD (a .heads .now) (c .before .bucket .result) 0 in
+    (0 ≤ j) × (j ≤ maxRecords) × (j < countOf t → bucketOf (ownerSlot (recordAt t j)) ≡ bucketOf (targetSlot (recordAt t (a .i))))
     × (upTo (min j (countOf t)) (madeOf t (recordAt t (a .i))) ≡ upTo 0 (madeOf t (recordAt t (a .i))))
 start c =
-    let a = c .before .before .before .before .before .before .before .before .args in
-    let w = c .before .before .before .before .before .before .before .before .pre in
+    let a = c .before .before .before .before .before .before .before .before .before .args in
+    let w = c .before .before .before .before .before .before .before .before .before .pre in
     let t = a .table .now in
     let k = c .before .bucket in
-    let h : getD (a .heads .now) (k .result) 0 ≡ firstIn t (bucketOf (targetAt t (a .i))) 0 = w .4 .head (k .result) (k .ensures .1) ∙ ap (λ (b : ℕ). firstIn t b 0) (k .ensures .0 ∙ ap bucketOf (c .before .before .target .ensures)) in
+    let h : getD (a .heads .now) (k .result) 0 ≡ firstIn t (bucketOf (targetSlot (recordAt t (a .i)))) 0 = w .4 .head (k .result) (k .ensures .1) ∙ ap (λ (b : ℕ). firstIn t b 0) (k .ensures .0 ∙ ap bucketOf (slot-is (c .before .before))) in
     walked t (w .0) (a .i) (w .1) (w .2) 0 (getD (a .heads .now) (k .result) 0) (omega arith) (order-count t (w .0)) h
 
 cast-j : tie.Need-cast-j Inv-loop μ-loop
@@ -56,12 +64,12 @@ cast-j c = omega (arith, start c .1)
 
 loop-holds : tie.Need-loop-holds Inv-loop μ-loop
 loop-holds c =
-    let a = c .before .before .before .before .before .before .before .before .args in
+    let a = c .before .before .before .before .before .before .before .before .before .args in
     let t = a .table .now in
     let f = madeOf t (recordAt t (a .i)) in
     let k = start c in (
-      c .before .before .before .count .ensures,
-      c .before .bucket .ensures .0 ∙ ap bucketOf (c .before .before .target .ensures),
+      c .before .before .before .before .count .ensures,
+      c .before .bucket .ensures .0 ∙ ap bucketOf (slot-is (c .before .before)),
       k .1,
       k .2,
       count-start f (a .n) ∙ sym (ap (λ (l : List (List ℕ)). a .n + length l) (k .3)),
@@ -72,8 +80,8 @@ loop-holds c =
 put-made-requires : tie.Need-put-made-requires Inv-loop μ-loop
 put-made-requires c κs =
     let l = c .before .before .loop in
-    let a = c .before .before .before .before .before .before .before .before .before .before .before .args in
-    let w = c .before .before .before .before .before .before .before .before .before .before .before .pre in
+    let a = c .before .before .before .before .before .before .before .before .before .before .before .before .args in
+    let w = c .before .before .before .before .before .before .before .before .before .before .before .before .pre in
     let t = a .table .now in
     let f = few-turns (madeOf t (recordAt t (a .i))) 1 (min (l .j) (countOf t)) (λ k h. made-few t (recordAt t (a .i)) k) in
     (w .0, w .1, w .2, omega (arith, order-count t (w .0), l .inv .4, w .3), omega (arith, l .inv .0))
@@ -82,19 +90,19 @@ mul-j-2 : tie.Need-mul-j-2 Inv-loop μ-loop
 mul-j-2 c = omega (arith, c .before .before .before .before .before .loop .inv .2)
 
 shared-slice-read-j-2 : tie.Need-shared-slice-read-j-2 Inv-loop μ-loop
-shared-slice-read-j-2 c = omega (arith, c .before .before .before .before .before .before .loop .inv .0, order-count (c .before .before .before .before .before .before .before .before .before .before .before .before .before .before .before .args .table .now) (c .before .before .before .before .before .before .before .before .before .before .before .before .before .before .before .pre .0), c .before .before .before .before .before .before .before .before .before .before .before .before .before .before .before .pre .4 .records)
+shared-slice-read-j-2 c = omega (arith, c .before .before .before .before .before .before .loop .inv .0, order-count (c .before .before .before .before .before .before .before .before .before .before .before .before .before .before .before .before .args .table .now) (c .before .before .before .before .before .before .before .before .before .before .before .before .before .before .before .before .pre .0), c .before .before .before .before .before .before .before .before .before .before .before .before .before .before .before .before .pre .4 .records)
 
 -- where the next turn starts
-step : (c : tie.After-shared-slice-known5 Inv-loop μ-loop) → let l = c .before .before .before .before .before .before .loop in let a = c .before .before .before .before .before .before .before .before .before .before .before .before .before .before .before .args in let t = a .table .now in let j = getD (a .next .now) (l .j) 0 in
-    (l .j + 1 ≤ j) × (j ≤ maxRecords) × (j < countOf t → bucketOf (ownerAt t j) ≡ bucketOf (targetAt t (a .i)))
+step : (c : tie.After-shared-slice-known5 Inv-loop μ-loop) → let l = c .before .before .before .before .before .before .loop in let a = c .before .before .before .before .before .before .before .before .before .before .before .before .before .before .before .before .args in let t = a .table .now in let j = getD (a .next .now) (l .j) 0 in
+    (l .j + 1 ≤ j) × (j ≤ maxRecords) × (j < countOf t → bucketOf (ownerSlot (recordAt t j)) ≡ bucketOf (targetSlot (recordAt t (a .i))))
     × (upTo (min j (countOf t)) (madeOf t (recordAt t (a .i))) ≡ upTo (l .j + 1) (madeOf t (recordAt t (a .i))))
 step c =
     let l = c .before .before .before .before .before .before .loop in
-    let a = c .before .before .before .before .before .before .before .before .before .before .before .before .before .before .before .args in
-    let w = c .before .before .before .before .before .before .before .before .before .before .before .before .before .before .before .pre in
+    let a = c .before .before .before .before .before .before .before .before .before .before .before .before .before .before .before .before .args in
+    let w = c .before .before .before .before .before .before .before .before .before .before .before .before .before .before .before .before .pre in
     let t = a .table .now in
     let h : l .j < countOf t = omega (arith, l .inv .0) in
-    let e : getD (a .next .now) (l .j) 0 ≡ firstIn t (bucketOf (targetAt t (a .i))) (l .j + 1) = w .4 .after (l .j) (omega arith) h ∙ ap (λ (b : ℕ). firstIn t b (l .j + 1)) (l .inv .3 h) in
+    let e : getD (a .next .now) (l .j) 0 ≡ firstIn t (bucketOf (targetSlot (recordAt t (a .i)))) (l .j + 1) = w .4 .after (l .j) (omega arith) h ∙ ap (λ (b : ℕ). firstIn t b (l .j + 1)) (l .inv .3 h) in
     walked t (w .0) (a .i) (w .1) (w .2) (l .j + 1) (getD (a .next .now) (l .j) 0) (omega arith) (order-count t (w .0)) e
 
 cast-j-2 : tie.Need-cast-j-2 Inv-loop μ-loop
@@ -108,7 +116,7 @@ loop-less c =
 loop-again : tie.Need-loop-again Inv-loop μ-loop
 loop-again c =
     let l = c .before .before .before .before .before .before .loop in
-    let a = c .before .before .before .before .before .before .before .before .before .before .before .before .before .before .before .args in
+    let a = c .before .before .before .before .before .before .before .before .before .before .before .before .before .before .before .before .args in
     let t = a .table .now in
     let f = madeOf t (recordAt t (a .i)) in
     let k = step c in
@@ -131,7 +139,7 @@ same-length c = search needs
 returns : tie.Need-returns Inv-loop μ-loop
 returns c =
     let l = c .before .loop in
-    let a = c .before .before .before .before .before .before .before .before .before .before .args in
+    let a = c .before .before .before .before .before .before .before .before .before .before .before .args in
     let t = a .table .now in
     let e : min (l .j) (countOf t) ≡ countOf t = omega (arith, l .inv .0) in
     (rw (← e) (l .inv .4), rw (← e) (l .inv .5))
@@ -143,7 +151,8 @@ put-each-spec =
     Inv-loop
     μ-loop
     count-requires
-    target-requires
+    row-requires
+    target-slot-requires
     bucket-requires
     mul-j
     shared-slice-read-j

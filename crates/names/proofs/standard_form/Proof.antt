@@ -1,7 +1,7 @@
 -- `names::standard_form` meets its contract. Assumes nothing.
 use lib.Seq.{paste}
 use Prim.Native.Nat.{ℕ, _-_}
-use mathlib.Core.Path.{_≡_, refl, ap, _∙_, sym}
+use mathlib.Core.Path.{_≡_, ap, _∙_, sym}
 use mathlib.Core.List.{List, _++_}
 use lib.ListN.{length, drop}
 use native.Mathlib.Omega.{arith}
@@ -9,9 +9,8 @@ use Rattle.octets.specs.Octets.{blank}
 use Rattle.names.specs.Standard.{standardOf}
 use Rattle.names.specs.Answers.{standardNumber}
 use Rattle.names.specs.declared.Scanned.{Scanned}
-use Rattle.names.proofs.WriteLaws.{standard-apart}
 use Rattle.names.proofs.MergeLaws.{begins-start}
-use Rattle.names.proofs.AnswerLaws.{form-number, form-used, form-good, form-standard, number-malformed, number-room, number-done, refused-answer, refused-out, done-answer, done-out, copied}
+use Rattle.names.proofs.AnswerLaws.{form-number, form-used, form-good, number-malformed, number-room, number-done, refused-answer, refused-out, done-answer, done-out, standard-copied}
 use borrow.Author.Needs.{needs}
 use Rattle.names.proofs.standard_form.Statement.{statement}
 use Rattle.names.proofs.standard_form.Tie as tie
@@ -107,10 +106,8 @@ returns-4 c =
     let g = form-good name (sym (ap (λ (r : Scanned). r .number) t) ∙ c .before .before .before .before .before .before .before .if1 .left) (sym (ap (λ (r : Scanned). r .used) t) ∙ c .before .before .before .before .before .before .if2 .left) in
     let w : room ≡ 255 = sym (c .before .before .before .before .before .before .before .before .before .before .before .clear .kept .0) ∙ c .before .before .before .before .before .if3 .left in
     let e = number-done name room g w in
-    let st : standardOf name ≡ name = standard-apart name (λ i. omega (arith, c .before .before .before .before .before .before .before .before .before .before .before .before .before .before .shared-slice-known .given i)) g (form-standard name (sym (ap (λ (r : Scanned). r .standard) t) ∙ c .before .before .before .before .if4 .taken)) in
-    let o = copied name _ (length name) room refl (c .before .before .copy .ensures ∙ ap (λ (ys : List ℕ). paste ys 0 (drop 0 name) (length name)) v) in
-    let q : name ++ blank (room - length name) ≡ standardOf name ++ blank (room - length (standardOf name)) = rw st in
-    (done-answer name room (length name) e (ap length (sym st)), o ∙ q ∙ sym (done-out name room e))
+    let o = standard-copied name _ room (λ i. omega (arith, c .before .before .before .before .before .before .before .before .before .before .before .before .before .before .shared-slice-known .given i)) g (sym (ap (λ (r : Scanned). r .standard) t) ∙ c .before .before .before .before .if4 .taken) (c .before .before .copy .ensures ∙ ap (λ (ys : List ℕ). paste ys 0 (drop 0 name) (length name)) v) in
+    (done-answer name room (length name) e (o .1), o .0 ∙ sym (done-out name room e))
 
 merge-requires : tie.Need-merge-requires
 merge-requires c κs =
@@ -123,8 +120,8 @@ merge-requires c κs =
     let w : room ≡ 255 = sym (c .before .before .before .before .before .before .before .before .clear .kept .0) ∙ c .before .before .if3 .left in
     (g, v ∙ ap blank w)
 
-cast-t20 : tie.Need-cast-t20
-cast-t20 c = search needs
+cast-t22 : tie.Need-cast-t22
+cast-t22 c = search needs
 
 same-length-5 : tie.Need-same-length-5
 same-length-5 c = search needs
@@ -164,6 +161,6 @@ standard-form-spec =
     same-length-4
     returns-4
     merge-requires
-    cast-t20
+    cast-t22
     same-length-5
     returns-5)

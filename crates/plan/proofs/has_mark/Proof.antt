@@ -5,8 +5,9 @@ use Prim.Native.Nat.{_+_, _-_, _≤_}
 use mathlib.Core.Bool.{Bool, _||_}
 use lib.ListN.{length, drop}
 use mathlib.Core.Logic.{⊎-elim}
+use Rattle.octets.proofs.BoolLaws.{or-true, or-false}
 use Rattle.plan.specs.Marks.{among}
-use Rattle.plan.proofs.MarkLaws.{or-true, or-false, among-on, among-here, among-end}
+use Rattle.plan.proofs.MarkLaws.{among-on, among-here, among-end}
 use Rattle.plan.proofs.has_mark.Statement.{statement}
 use Rattle.plan.proofs.has_mark.Tie as tie
 

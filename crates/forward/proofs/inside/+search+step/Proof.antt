@@ -13,6 +13,7 @@ use Rattle.chains.specs.Listing.{free}
 use Rattle.forward.specs.Links.{Memory, memory, marksOf, searchOf, stepOf, Done}
 use Rattle.forward.specs.Search.{records}
 use Rattle.forward.specs.Halves.{addressOf}
+use Rattle.forward.proofs.HalvesLaws.{address-length}
 use Rattle.forward.proofs.StepLaws.{without, p-node, q-node, fewer, fit-without, nothing, still-long, done-finished, done-unfinished}
 use Rattle.forward.proofs.GoingLaws.{memory-eq, done-as, Going, going-start, going-step, going-skip, going-over, going-end, going-fit, unmarked, further, same-unused}
 use Rattle.forward.proofs.inside.search.Reads as search′
@@ -29,29 +30,29 @@ use Rattle.forward.proofs.rows.keep.Reads as keep-reads
 use Rattle.forward.proofs.inside.+search+step.{statement}
 use Rattle.forward.proofs.inside.+search+step.Tie.{close}
 
-abbrev μ-search : Measures 8 search-kinds.ps ℕ
-μ-search κs a = 2 * free (marksOf (length (a .0 .now)) (a .1 .1 .1 .1 .1 .1 .1 .1 .0 .now) (a .1 .1 .1 .1 .1 .1 .1 .1 .1 .0 .now)) + 1
+abbrev μ-search : Measures 9 search-kinds.ps ℕ
+μ-search κs a = 2 * free (marksOf (length (a .0 .now)) (a .1 .1 .1 .1 .1 .1 .1 .1 .1 .0 .now) (a .1 .1 .1 .1 .1 .1 .1 .1 .1 .1 .0 .now)) + 1
 
-abbrev μ-step : Measures 8 step-kinds.ps ℕ
-μ-step κs a = 2 * free (marksOf (length (a .0 .now)) (a .1 .1 .1 .1 .1 .1 .1 .1 .0 .now) (a .1 .1 .1 .1 .1 .1 .1 .1 .1 .0 .now))
+abbrev μ-step : Measures 9 step-kinds.ps ℕ
+μ-step κs a = 2 * free (marksOf (length (a .0 .now)) (a .1 .1 .1 .1 .1 .1 .1 .1 .1 .0 .now) (a .1 .1 .1 .1 .1 .1 .1 .1 .1 .1 .0 .now))
 
-abbrev search-at : ℕ → In 8 search-kinds.ps
-search-at t = and 8 search-kinds.ps (is 8 search-kinds.ps μ-search t) search′.Pre
+abbrev search-at : ℕ → In 9 search-kinds.ps
+search-at t = and 9 search-kinds.ps (is 9 search-kinds.ps μ-search t) search′.Pre
 
-abbrev search-below : ℕ → In 8 search-kinds.ps
-search-below t = and 8 search-kinds.ps (falls 8 search-kinds.ps _<_ μ-search t) search′.Pre
+abbrev search-below : ℕ → In 9 search-kinds.ps
+search-below t = and 9 search-kinds.ps (falls 9 search-kinds.ps _<_ μ-search t) search′.Pre
 
-abbrev step-at : ℕ → In 8 step-kinds.ps
-step-at t = and 8 step-kinds.ps (is 8 step-kinds.ps μ-step t) step.Pre
+abbrev step-at : ℕ → In 9 step-kinds.ps
+step-at t = and 9 step-kinds.ps (is 9 step-kinds.ps μ-step t) step.Pre
 
-abbrev step-below : ℕ → In 8 step-kinds.ps
-step-below t = and 8 step-kinds.ps (falls 8 step-kinds.ps _<_ μ-step t) step.Pre
+abbrev step-below : ℕ → In 9 step-kinds.ps
+step-below t = and 9 step-kinds.ps (falls 9 step-kinds.ps _<_ μ-step t) step.Pre
 
 abbrev search-Inv-loop : search-lts.InvT-loop
-search-Inv-loop owners targets lengths addresses x bound high low next₀ prev₀ limit out₀ figures₀ work s₀ head i₀ next prev out figures s i = Going (records owners targets lengths addresses) limit x bound (addressOf high low) (memory next₀ prev₀ out₀ figures₀ s₀) (memory next prev out figures s) i
+search-Inv-loop owners targets lengths highs lows x bound high low next₀ prev₀ limit out₀ figures₀ work s₀ head i₀ next prev out figures s i = Going (records owners targets lengths highs lows) limit x bound (addressOf high low) (memory next₀ prev₀ out₀ figures₀ s₀) (memory next prev out figures s) i
 
 abbrev search-μ-loop : search-lts.MeasureT-loop
-search-μ-loop owners targets lengths addresses x bound high low next₀ prev₀ limit out₀ figures₀ work s₀ head i₀ next prev out figures s i = length owners - i
+search-μ-loop owners targets lengths highs lows x bound high low next₀ prev₀ limit out₀ figures₀ work s₀ head i₀ next prev out figures s i = length owners - i
 
 search-add-head : (t : ℕ) → search-lts.Need-add-head (
   wide-reads.Asked,
@@ -93,10 +94,10 @@ search-loop-holds : (t : ℕ) → search-lts.Need-loop-holds (
 ) (search-at t) search′.Post search-Inv-loop search-μ-loop
 search-loop-holds t c =
     let a = c .before .before .before .before .args in
-    let table = records (a .owners .now) (a .targets .now) (a .lengths .now) (a .addresses .now) in
+    let table = records (a .owners .now) (a .targets .now) (a .lengths .now) (a .highs .now) (a .lows .now) in
     let start = memory (a .next .now) (a .prev .now) (a .out .now) (a .figures .now) (a .work) in
     let f = c .before .before .before .before .pre .1 .0 in
-    going-start table (a .limit) (a .x) (a .bound) (addressOf (a .high) (a .low)) start (f .linked) _ (f .two) (omega (arith, f .nodes, f .numbered .owned .few, c .before .before .before .before .pre .1 .1)) (f .room) (c .wide .ensures)
+    going-start table (a .limit) (a .x) (a .bound) (addressOf (a .high) (a .low)) start (f .linked) _ (f .places) (omega (arith, f .nodes, f .numbered .owned .few, c .before .before .before .before .pre .1 .1)) (f .room) (c .wide .ensures)
 
 search-same-length : (t : ℕ) → search-lts.Need-same-length (
   wide-reads.Asked,
@@ -114,7 +115,7 @@ search-returns : (t : ℕ) → search-lts.Need-returns (
 ) (search-at t) search′.Post search-Inv-loop search-μ-loop
 search-returns t c =
     let a = c .before .before .before .before .before .before .before .args in
-    let table = records (a .owners .now) (a .targets .now) (a .lengths .now) (a .addresses .now) in
+    let table = records (a .owners .now) (a .targets .now) (a .lengths .now) (a .highs .now) (a .lows .now) in
     let start = memory (a .next .now) (a .prev .now) (a .out .now) (a .figures .now) (a .work) in
     let f = c .before .before .before .before .before .before .before .pre .1 .0 in
     let l = c .before .before .loop in
@@ -137,7 +138,7 @@ search-step-requires : (t : ℕ) → search-lts.Need-step-requires (
 ) (search-at t) search′.Post search-Inv-loop search-μ-loop
 search-step-requires t c κs =
     let a = c .before .before .before .before .before .before .before .before .before .before .before .before .before .args in
-    let table = records (a .owners .now) (a .targets .now) (a .lengths .now) (a .addresses .now) in
+    let table = records (a .owners .now) (a .targets .now) (a .lengths .now) (a .highs .now) (a .lows .now) in
     let start = memory (a .next .now) (a .prev .now) (a .out .now) (a .figures .now) (a .work) in
     let f = c .before .before .before .before .before .before .before .before .before .before .before .before .before .pre .1 .0 in
     let l = c .before .before .before .before .before .before .before .before .loop in
@@ -146,7 +147,7 @@ search-step-requires t c κs =
     let e = same-unused table (a .limit) (a .x) (a .bound) (addressOf (a .high) (a .low)) start (f .linked) here (l .i) (l .inv) li in (
       omega (arith, c .before .before .before .before .before .before .before .before .before .before .before .before .before .pre .0, ap free e),
       (
-        going-fit table (a .limit) (a .x) (a .bound) (addressOf (a .high) (a .low)) start (f .linked) here (l .i) (l .inv) li f,
+        going-fit table (a .limit) (a .x) (a .bound) (addressOf (a .high) (a .low)) start (f .linked) here (l .i) (l .inv) li f (address-length (a .high) (a .low)),
         (
           li,
           ap (λ (u : List ℕ). getD u (l .i) 0) e ∙ unmarked table (a .limit) (a .x) (a .bound) (addressOf (a .high) (a .low)) start (f .linked) here (l .i) (l .inv) li,
@@ -188,7 +189,7 @@ search-loop-less : (t : ℕ) → search-lts.Need-loop-less (
 ) (search-at t) search′.Post search-Inv-loop search-μ-loop
 search-loop-less t c =
     let a = c .before .before .before .before .before .before .before .before .before .before .before .args in
-    let table = records (a .owners .now) (a .targets .now) (a .lengths .now) (a .addresses .now) in
+    let table = records (a .owners .now) (a .targets .now) (a .lengths .now) (a .highs .now) (a .lows .now) in
     let start = memory (a .next .now) (a .prev .now) (a .out .now) (a .figures .now) (a .work) in
     let f = c .before .before .before .before .before .before .before .before .before .before .before .pre .1 .0 in
     let l = c .before .before .before .before .before .before .loop in
@@ -207,7 +208,7 @@ search-loop-again : (t : ℕ) → search-lts.Need-loop-again (
 ) (search-at t) search′.Post search-Inv-loop search-μ-loop
 search-loop-again t c =
     let a = c .before .before .before .before .before .before .before .before .before .before .before .args in
-    let table = records (a .owners .now) (a .targets .now) (a .lengths .now) (a .addresses .now) in
+    let table = records (a .owners .now) (a .targets .now) (a .lengths .now) (a .highs .now) (a .lows .now) in
     let start = memory (a .next .now) (a .prev .now) (a .out .now) (a .figures .now) (a .work) in
     let f = c .before .before .before .before .before .before .before .before .before .before .before .pre .1 .0 in
     let l = c .before .before .before .before .before .before .loop in
@@ -220,7 +221,7 @@ search-loop-again t c =
     going-step table (a .limit) (a .x) (a .bound) (addressOf (a .high) (a .low)) start (f .linked) here (l .i) (l .inv) li
     there (c .wide2 .result) (le-leb (getD (a .lengths .now) (l .i) 0) (a .bound) (w .0 .taken))
     (done-as here _ there (stepOf table (a .limit) (l .i) (a .bound) (addressOf (a .high) (a .low)) here) (memory-eq (w .8) (w .9) (w .10) (w .11) (w .12)) (w .5 .ensures))
-    (ap length (w .10) ∙ w .5 .kept .1 .1 .1 .1 .1 .1 .1 .1 .1 .1 .1 .0) (c .wide2 .ensures))
+    (ap length (w .10) ∙ w .5 .kept .1 .1 .1 .1 .1 .1 .1 .1 .1 .1 .1 .1 .0) (c .wide2 .ensures))
     (λ w.
     subst (λ (m : Memory). Going table (a .limit) (a .x) (a .bound) (addressOf (a .high) (a .low)) start m (c .wide2 .result)) (sym (memory-eq (w .1) (w .2) (w .3) (w .4) (w .5)))
     (going-skip table (a .limit) (a .x) (a .bound) (addressOf (a .high) (a .low)) start (f .linked) here (l .i) (l .inv) li (c .wide2 .result) (lt-leb (getD (a .lengths .now) (l .i) 0) (a .bound) (w .0 .left))
@@ -243,7 +244,7 @@ search-returns-2 : (t : ℕ) → search-lts.Need-returns-2 (
 ) (search-at t) search′.Post search-Inv-loop search-μ-loop
 search-returns-2 t c =
     let a = c .before .before .before .before .before .before .args in
-    let table = records (a .owners .now) (a .targets .now) (a .lengths .now) (a .addresses .now) in
+    let table = records (a .owners .now) (a .targets .now) (a .lengths .now) (a .highs .now) (a .lows .now) in
     let start = memory (a .next .now) (a .prev .now) (a .out .now) (a .figures .now) (a .work) in
     let f = c .before .before .before .before .before .before .pre .1 .0 in
     let l = c .before .loop in
@@ -281,9 +282,9 @@ step-joined-requires : (t : ℕ) → step-lts.Need-joined-requires (
   relink-reads.Learnt,
 ) (step-at t) step.Post
 step-joined-requires t c κs =
-    let a = c .before .before .before .before .args in
-    let p = c .before .before .before .before .pre .1 in
-    ((p .0 .numbered .octets, omega (arith, p .0 .numbered .owned .few, p .1 .0)), (p .0 .some, p .0 .bounded))
+    let a = c .before .before .before .args in
+    let p = c .before .before .before .pre .1 in
+    (omega (arith, p .0 .numbered .owned .few, p .1 .0), (p .0 .some, p .0 .bounded))
 
 step-add-w : (t : ℕ) → step-lts.Need-add-w (
   joined-reads.Asked,
@@ -299,7 +300,7 @@ step-add-w : (t : ℕ) → step-lts.Need-add-w (
   relink-reads.Asked,
   relink-reads.Learnt,
 ) (step-at t) step.Post
-step-add-w t c = omega (arith, c .before .before .before .before .before .pre .1 .0 .limited, c .before .before .before .before .before .pre .1 .1 .3)
+step-add-w t c = omega (arith, c .before .before .before .before .pre .1 .0 .limited, c .before .before .before .before .pre .1 .1 .3)
 
 step-keep-requires : (t : ℕ) → step-lts.Need-keep-requires (
   joined-reads.Asked,
@@ -315,7 +316,9 @@ step-keep-requires : (t : ℕ) → step-lts.Need-keep-requires (
   relink-reads.Asked,
   relink-reads.Learnt,
 ) (step-at t) step.Post
-step-keep-requires t c κs = (c .before .before .before .before .before .before .before .before .pre .1 .0 .two, c .before .before .before .before .before .before .before .before .pre .1 .0 .room)
+step-keep-requires t c κs =
+    let f = c .before .before .before .before .before .before .before .pre .1 .0 in
+    (f .places, f .room, f .ordered)
 
 step-same-length : (t : ℕ) → step-lts.Need-same-length (
   joined-reads.Asked,
@@ -348,10 +351,10 @@ step-returns : (t : ℕ) → step-lts.Need-returns (
   relink-reads.Learnt,
 ) (step-at t) step.Post
 step-returns t c =
-    let a = c .before .before .before .before .before .before .before .before .before .before .before .args in
-    let table = records (a .owners .now) (a .targets .now) (a .lengths .now) (a .addresses .now) in
+    let a = c .before .before .before .before .before .before .before .before .before .before .args in
+    let table = records (a .owners .now) (a .targets .now) (a .lengths .now) (a .highs .now) (a .lows .now) in
     let start = memory (a .next .now) (a .prev .now) (a .out .now) (a .figures .now) (a .work) in
-    let p = c .before .before .before .before .before .before .before .before .before .before .before .pre .1 in
+    let p = c .before .before .before .before .before .before .before .before .before .before .pre .1 in
     let k = c .before .before .keep .ensures in
     done-finished table start (a .bound) (a .limit) (a .i) (p .0) (p .1 .0) (p .1 .1) (addressOf (a .high) (a .low)) _ _ _ (p .1 .3) (c .before .before .before .before .before .if1 .taken) (c .before .before .before .before .before .before .joined .ensures) (k .0) (k .1) (k .2)
 
@@ -369,7 +372,7 @@ step-mul-wide : (t : ℕ) → step-lts.Need-mul-wide (
   relink-reads.Asked,
   relink-reads.Learnt,
 ) (step-at t) step.Post
-step-mul-wide t c = omega (arith, c .before .before .before .before .before .before .pre .1 .0 .numbered .owned .few, c .before .before .before .before .before .before .pre .1 .1 .0)
+step-mul-wide t c = omega (arith, c .before .before .before .before .before .pre .1 .0 .numbered .owned .few, c .before .before .before .before .before .pre .1 .1 .0)
 
 step-element-copy-out-wide : (t : ℕ) → step-lts.Need-element-copy-out-wide (
   joined-reads.Asked,
@@ -385,7 +388,7 @@ step-element-copy-out-wide : (t : ℕ) → step-lts.Need-element-copy-out-wide (
   relink-reads.Asked,
   relink-reads.Learnt,
 ) (step-at t) step.Post
-step-element-copy-out-wide t c = omega (arith, c .before .before .before .before .before .before .pre .1 .0 .numbered .owned .few, c .before .before .before .before .before .before .pre .1 .1 .0)
+step-element-copy-out-wide t c = omega (arith, c .before .before .before .before .before .pre .1 .0 .numbered .owned .few, c .before .before .before .before .before .pre .1 .1 .0)
 
 step-wide-requires : (t : ℕ) → step-lts.Need-wide-requires (
   joined-reads.Asked,
@@ -417,7 +420,7 @@ step-mul-wide-2 : (t : ℕ) → step-lts.Need-mul-wide-2 (
   relink-reads.Asked,
   relink-reads.Learnt,
 ) (step-at t) step.Post
-step-mul-wide-2 t c = omega (arith, c .before .before .before .before .before .before .before .before .pre .1 .0 .numbered .owned .few, c .before .before .before .before .before .before .before .before .pre .1 .1 .0)
+step-mul-wide-2 t c = omega (arith, c .before .before .before .before .before .before .before .pre .1 .0 .numbered .owned .few, c .before .before .before .before .before .before .before .pre .1 .1 .0)
 
 step-element-copy-out-wide-2 : (t : ℕ) → step-lts.Need-element-copy-out-wide-2 (
   joined-reads.Asked,
@@ -433,7 +436,7 @@ step-element-copy-out-wide-2 : (t : ℕ) → step-lts.Need-element-copy-out-wide
   relink-reads.Asked,
   relink-reads.Learnt,
 ) (step-at t) step.Post
-step-element-copy-out-wide-2 t c = omega (arith, c .before .before .before .before .before .before .before .before .pre .1 .0 .numbered .owned .few, c .before .before .before .before .before .before .before .before .pre .1 .1 .0)
+step-element-copy-out-wide-2 t c = omega (arith, c .before .before .before .before .before .before .before .pre .1 .0 .numbered .owned .few, c .before .before .before .before .before .before .before .pre .1 .1 .0)
 
 step-wide-requires-2 : (t : ℕ) → step-lts.Need-wide-requires-2 (
   joined-reads.Asked,
@@ -465,7 +468,7 @@ step-mul-wide-3 : (t : ℕ) → step-lts.Need-mul-wide-3 (
   relink-reads.Asked,
   relink-reads.Learnt,
 ) (step-at t) step.Post
-step-mul-wide-3 t c = omega (arith, c .before .before .before .before .before .before .before .before .before .before .pre .1 .0 .numbered .owned .few, c .before .before .before .before .before .before .before .before .before .before .pre .1 .1 .0)
+step-mul-wide-3 t c = omega (arith, c .before .before .before .before .before .before .before .before .before .pre .1 .0 .numbered .owned .few, c .before .before .before .before .before .before .before .before .before .pre .1 .1 .0)
 
 step-element-copy-out-wide-3 : (t : ℕ) → step-lts.Need-element-copy-out-wide-3 (
   joined-reads.Asked,
@@ -481,7 +484,7 @@ step-element-copy-out-wide-3 : (t : ℕ) → step-lts.Need-element-copy-out-wide
   relink-reads.Asked,
   relink-reads.Learnt,
 ) (step-at t) step.Post
-step-element-copy-out-wide-3 t c = omega (arith, c .before .before .before .before .before .before .before .before .before .before .pre .1 .0 .numbered .owned .few, c .before .before .before .before .before .before .before .before .before .before .pre .1 .1 .0)
+step-element-copy-out-wide-3 t c = omega (arith, c .before .before .before .before .before .before .before .before .before .pre .1 .0 .numbered .owned .few, c .before .before .before .before .before .before .before .before .before .pre .1 .1 .0)
 
 step-wide-requires-3 : (t : ℕ) → step-lts.Need-wide-requires-3 (
   joined-reads.Asked,
@@ -514,10 +517,10 @@ step-unlink-requires : (t : ℕ) → step-lts.Need-unlink-requires (
   relink-reads.Learnt,
 ) (step-at t) step.Post
 step-unlink-requires t c κs =
-    let a = c .before .before .before .before .before .before .before .before .before .before .before .before .before .before .args in
-    let table = records (a .owners .now) (a .targets .now) (a .lengths .now) (a .addresses .now) in
+    let a = c .before .before .before .before .before .before .before .before .before .before .before .before .before .args in
+    let table = records (a .owners .now) (a .targets .now) (a .lengths .now) (a .highs .now) (a .lows .now) in
     let start = memory (a .next .now) (a .prev .now) (a .out .now) (a .figures .now) (a .work) in
-    let p = c .before .before .before .before .before .before .before .before .before .before .before .before .before .before .pre .1 in
+    let p = c .before .before .before .before .before .before .before .before .before .before .before .before .before .pre .1 in
     (p .0 .nodes, p .0 .linked .level ∙ p .0 .nodes, p-node table start (a .bound) (a .limit) (a .i) (p .0) (p .1 .0) (p .1 .1) (c .before .before .before .before .wide2 .result) (c .before .before .wide3 .result) (c .before .before .before .before .wide2 .ensures) (c .before .before .wide3 .ensures), q-node table start (a .bound) (a .limit) (a .i) (p .0) (p .1 .0) (p .1 .1) (c .before .before .before .before .wide2 .result) (c .before .before .wide3 .result) (c .before .before .before .before .wide2 .ensures) (c .before .before .wide3 .ensures))
 
 step-add-head : (t : ℕ) → step-lts.Need-add-head (
@@ -535,8 +538,8 @@ step-add-head : (t : ℕ) → step-lts.Need-add-head (
   relink-reads.Learnt,
 ) (step-at t) step.Post
 step-add-head t c =
-    let a = c .before .before .before .before .before .before .before .before .before .before .before .before .before .before .before .args in
-    let p = c .before .before .before .before .before .before .before .before .before .before .before .before .before .before .before .pre .1 in
+    let a = c .before .before .before .before .before .before .before .before .before .before .before .before .before .before .args in
+    let p = c .before .before .before .before .before .before .before .before .before .before .before .before .before .before .pre .1 in
     omega (arith, c .before .before .before .before .before .before .before .wide .ensures, p .0 .numbered .owned .few, p .0 .numbered .target (a .i) (p .1 .0) (omega (arith, c .before .before .before .before .before .before .before .before .before .if1 .left)))
 
 step-mul-wide-4 : (t : ℕ) → step-lts.Need-mul-wide-4 (
@@ -554,8 +557,8 @@ step-mul-wide-4 : (t : ℕ) → step-lts.Need-mul-wide-4 (
   relink-reads.Learnt,
 ) (step-at t) step.Post
 step-mul-wide-4 t c =
-    let a = c .before .before .before .before .before .before .before .before .before .before .before .before .before .before .before .args in
-    let p = c .before .before .before .before .before .before .before .before .before .before .before .before .before .before .before .pre .1 in
+    let a = c .before .before .before .before .before .before .before .before .before .before .before .before .before .before .args in
+    let p = c .before .before .before .before .before .before .before .before .before .before .before .before .before .before .pre .1 in
     omega (arith, c .before .before .before .before .before .before .before .wide .ensures, p .0 .numbered .owned .few, p .0 .numbered .target (a .i) (p .1 .0) (omega (arith, c .before .before .before .before .before .before .before .before .before .if1 .left)))
 
 step-element-copy-out-wide-4 : (t : ℕ) → step-lts.Need-element-copy-out-wide-4 (
@@ -573,8 +576,8 @@ step-element-copy-out-wide-4 : (t : ℕ) → step-lts.Need-element-copy-out-wide
   relink-reads.Learnt,
 ) (step-at t) step.Post
 step-element-copy-out-wide-4 t c =
-    let a = c .before .before .before .before .before .before .before .before .before .before .before .before .before .before .before .args in
-    let p = c .before .before .before .before .before .before .before .before .before .before .before .before .before .before .before .pre .1 in
+    let a = c .before .before .before .before .before .before .before .before .before .before .before .before .before .before .args in
+    let p = c .before .before .before .before .before .before .before .before .before .before .before .before .before .before .pre .1 in
     omega (arith, c .before .before .before .before .before .before .before .wide .ensures, p .0 .numbered .owned .few, p .0 .numbered .target (a .i) (p .1 .0) (omega (arith, c .before .before .before .before .before .before .before .before .before .if1 .left)))
 
 step-wide-requires-4 : (t : ℕ) → step-lts.Need-wide-requires-4 (
@@ -608,12 +611,12 @@ step-search-requires : (t : ℕ) → step-lts.Need-search-requires (
   relink-reads.Learnt,
 ) (step-at t) step.Post
 step-search-requires t c κs =
-    let a = c .before .before .before .before .before .before .before .before .before .before .before .before .before .before .before .before .before .before .before .before .before .before .args in
-    let table = records (a .owners .now) (a .targets .now) (a .lengths .now) (a .addresses .now) in
+    let a = c .before .before .before .before .before .before .before .before .before .before .before .before .before .before .before .before .before .before .before .before .before .args in
+    let table = records (a .owners .now) (a .targets .now) (a .lengths .now) (a .highs .now) (a .lows .now) in
     let start = memory (a .next .now) (a .prev .now) (a .out .now) (a .figures .now) (a .work) in
-    let p = c .before .before .before .before .before .before .before .before .before .before .before .before .before .before .before .before .before .before .before .before .before .before .pre .1 in
+    let p = c .before .before .before .before .before .before .before .before .before .before .before .before .before .before .before .before .before .before .before .before .before .pre .1 in
     let o : 0 < getD (a .lengths .now) (a .i) 0 = omega (arith, c .before .before .before .before .before .before .before .before .before .before .before .before .before .before .before .before .if1 .left) in (
-      omega (arith, c .before .before .before .before .before .before .before .before .before .before .before .before .before .before .before .before .before .before .before .before .before .before .pre .0, fewer table start (a .bound) (a .limit) (a .i) (p .0) (p .1 .0) (p .1 .1) (c .before .before .before .before .before .before .before .before .before .before .before .before .wide2 .result) (c .before .before .before .before .before .before .before .before .before .before .wide3 .result) (c .before .before .before .before .before .before .before .before .before .before .before .before .wide2 .ensures) (c .before .before .before .before .before .before .before .before .before .before .wide3 .ensures) (c .before .before .before .before .before .before .before .unlink .last .1 .1 .0) (c .before .before .before .before .before .before .before .unlink .last .1 .1 .1 .0) (c .before .before .before .before .before .before .before .unlink .ensures .0) (c .before .before .before .before .before .before .before .unlink .ensures .1)),
+      omega (arith, c .before .before .before .before .before .before .before .before .before .before .before .before .before .before .before .before .before .before .before .before .before .pre .0, fewer table start (a .bound) (a .limit) (a .i) (p .0) (p .1 .0) (p .1 .1) (c .before .before .before .before .before .before .before .before .before .before .before .before .wide2 .result) (c .before .before .before .before .before .before .before .before .before .before .wide3 .result) (c .before .before .before .before .before .before .before .before .before .before .before .before .wide2 .ensures) (c .before .before .before .before .before .before .before .before .before .before .wide3 .ensures) (c .before .before .before .before .before .before .before .unlink .last .1 .1 .0) (c .before .before .before .before .before .before .before .unlink .last .1 .1 .1 .0) (c .before .before .before .before .before .before .before .unlink .ensures .0) (c .before .before .before .before .before .before .before .unlink .ensures .1)),
       (
         fit-without table start (a .bound) (a .limit) (a .i) (p .0) (p .1 .0) (p .1 .1) (c .before .before .before .before .before .before .before .before .before .before .before .before .wide2 .result) (c .before .before .before .before .before .before .before .before .before .before .wide3 .result) (c .before .before .before .before .before .before .before .before .before .before .before .before .wide2 .ensures) (c .before .before .before .before .before .before .before .before .before .before .wide3 .ensures) (c .before .before .before .before .before .before .before .unlink .last .1 .1 .0) (c .before .before .before .before .before .before .before .unlink .last .1 .1 .1 .0) (c .before .before .before .before .before .before .before .unlink .ensures .0) (c .before .before .before .before .before .before .before .unlink .ensures .1) (getD (a .lengths .now) (a .i) 0) o (p .1 .2),
         omega (arith, c .before .before .before .before .before .before .before .before .before .before .before .before .before .before .wide .ensures, p .0 .numbered .owned .few, p .0 .numbered .target (a .i) (p .1 .0) (omega (arith, c .before .before .before .before .before .before .before .before .before .before .before .before .before .before .before .before .if1 .left))),
@@ -635,18 +638,18 @@ step-left : (t : ℕ) (c : step-lts.Joined2 (
   relink-reads.Asked,
   relink-reads.Learnt,
 ) (step-at t) step.Post) → (
-    let a = c .before .before .before .before .before .before .before .before .before .before .before .before .before .before .before .before .before .before .args in
-    let table = records (a .owners .now) (a .targets .now) (a .lengths .now) (a .addresses .now) in
+    let a = c .before .before .before .before .before .before .before .before .before .before .before .before .before .before .before .before .before .args in
+    let table = records (a .owners .now) (a .targets .now) (a .lengths .now) (a .highs .now) (a .lows .now) in
     let start = memory (a .next .now) (a .prev .now) (a .out .now) (a .figures .now) (a .work) in
-    let p = c .before .before .before .before .before .before .before .before .before .before .before .before .before .before .before .before .before .before .pre .1 in
+    let p = c .before .before .before .before .before .before .before .before .before .before .before .before .before .before .before .before .before .pre .1 in
     let W = without table start (a .bound) (a .limit) (a .i) (p .0) (p .1 .0) (p .1 .1) (c .before .before .before .before .before .before .before .before .wide2 .result) (c .before .before .before .before .before .before .wide3 .result) (c .before .before .before .before .before .before .before .before .wide2 .ensures) (c .before .before .before .before .before .before .wide3 .ensures) (c .before .before .before .unlink .last .1 .1 .0) (c .before .before .before .unlink .last .1 .1 .1 .0) (c .before .before .before .unlink .ensures .0) (c .before .before .before .unlink .ensures .1) in
     Done W (memory (c .if2 .next) (c .if2 .prev) (c .if2 .out) (c .if2 .figures) (c .if2 .r))
     (searchOf table (a .limit) (c .before .before .before .before .before .before .before .before .before .before .wide .result) (getD (a .lengths .now) (a .i) 0) (addressOf (c .before .before .before .before .before .before .before .before .before .before .before .before .before .joined .result .high) (c .before .before .before .before .before .before .before .before .before .before .before .before .before .joined .result .low)) W))
 step-left t c =
-    let a = c .before .before .before .before .before .before .before .before .before .before .before .before .before .before .before .before .before .before .args in
-    let table = records (a .owners .now) (a .targets .now) (a .lengths .now) (a .addresses .now) in
+    let a = c .before .before .before .before .before .before .before .before .before .before .before .before .before .before .before .before .before .args in
+    let table = records (a .owners .now) (a .targets .now) (a .lengths .now) (a .highs .now) (a .lows .now) in
     let start = memory (a .next .now) (a .prev .now) (a .out .now) (a .figures .now) (a .work) in
-    let p = c .before .before .before .before .before .before .before .before .before .before .before .before .before .before .before .before .before .before .pre .1 in
+    let p = c .before .before .before .before .before .before .before .before .before .before .before .before .before .before .before .before .before .pre .1 in
     let o : 0 < getD (a .lengths .now) (a .i) 0 = omega (arith, c .before .before .before .before .before .before .before .before .before .before .before .before .if1 .left) in
     let j = c .if2 in
     let m′ = memory (j .next) (j .prev) (j .out) (j .figures) (j .r) in
@@ -674,10 +677,10 @@ step-relink-requires : (t : ℕ) → step-lts.Need-relink-requires (
   relink-reads.Learnt,
 ) (step-at t) step.Post
 step-relink-requires t c κs =
-    let a = c .before .before .before .before .before .before .before .before .before .before .before .before .before .before .before .before .before .before .before .before .args in
-    let table = records (a .owners .now) (a .targets .now) (a .lengths .now) (a .addresses .now) in
+    let a = c .before .before .before .before .before .before .before .before .before .before .before .before .before .before .before .before .before .before .before .args in
+    let table = records (a .owners .now) (a .targets .now) (a .lengths .now) (a .highs .now) (a .lows .now) in
     let start = memory (a .next .now) (a .prev .now) (a .out .now) (a .figures .now) (a .work) in
-    let p = c .before .before .before .before .before .before .before .before .before .before .before .before .before .before .before .before .before .before .before .before .pre .1 in
+    let p = c .before .before .before .before .before .before .before .before .before .before .before .before .before .before .before .before .before .before .before .pre .1 in
     let o : 0 < getD (a .lengths .now) (a .i) 0 = omega (arith, c .before .before .before .before .before .before .before .before .before .before .before .before .before .before .if1 .left) in
     let j = c .before .before .if2 in
     let m′ = memory (j .next) (j .prev) (j .out) (j .figures) (j .r) in
@@ -702,7 +705,7 @@ step-same-length-2 : (t : ℕ) → step-lts.Need-same-length-2 (
   relink-reads.Asked,
   relink-reads.Learnt,
 ) (step-at t) step.Post
-step-same-length-2 t c = ⊎-elim (λ w. ap length (w .10) ∙ w .5 .kept .1 .1 .1 .1 .1 .1 .1 .1 .1 .1 .1 .0) (λ w. ap length (w .3)) (c .before .before .before .if2 .came)
+step-same-length-2 t c = ⊎-elim (λ w. ap length (w .10) ∙ w .5 .kept .1 .1 .1 .1 .1 .1 .1 .1 .1 .1 .1 .1 .0) (λ w. ap length (w .3)) (c .before .before .before .if2 .came)
 
 step-returns-2 : (t : ℕ) → step-lts.Need-returns-2 (
   joined-reads.Asked,
@@ -719,10 +722,10 @@ step-returns-2 : (t : ℕ) → step-lts.Need-returns-2 (
   relink-reads.Learnt,
 ) (step-at t) step.Post
 step-returns-2 t c =
-    let a = c .before .before .before .before .before .before .before .before .before .before .before .before .before .before .before .before .before .before .before .before .before .args in
-    let table = records (a .owners .now) (a .targets .now) (a .lengths .now) (a .addresses .now) in
+    let a = c .before .before .before .before .before .before .before .before .before .before .before .before .before .before .before .before .before .before .before .before .args in
+    let table = records (a .owners .now) (a .targets .now) (a .lengths .now) (a .highs .now) (a .lows .now) in
     let start = memory (a .next .now) (a .prev .now) (a .out .now) (a .figures .now) (a .work) in
-    let p = c .before .before .before .before .before .before .before .before .before .before .before .before .before .before .before .before .before .before .before .before .before .pre .1 in
+    let p = c .before .before .before .before .before .before .before .before .before .before .before .before .before .before .before .before .before .before .before .before .pre .1 in
     let o : 0 < getD (a .lengths .now) (a .i) 0 = omega (arith, c .before .before .before .before .before .before .before .before .before .before .before .before .before .before .before .if1 .left) in
     let j = c .before .before .before .if2 in
     let m′ = memory (j .next) (j .prev) (j .out) (j .figures) (j .r) in

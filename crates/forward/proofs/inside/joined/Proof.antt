@@ -1,33 +1,31 @@
 -- `forward::inside::joined` meets its contract: joining halves is joining addresses. Assumes nothing.
-use Prim.Native.Nat.{_+_, _*_, _≤_}
+use mathlib.Core.Path.{sym}
+use lib.ListN.{getD}
 use native.Mathlib.Omega.{arith}
-use lib.ListN.{length}
 use borrow.Author.Needs.{needs}
-use Rattle.forward.proofs.HalvesLaws.{joined-first, joined-last}
+use Rattle.forward.proofs.HalvesLaws.{join-first, join-last}
 use Rattle.forward.proofs.inside.joined.Statement.{statement}
 use Rattle.forward.proofs.inside.joined.Tie as tie
 
-mul-at : tie.Need-mul-at
-mul-at c = search needs
+mul-h : tie.Need-mul-h
+mul-h c = search needs
 
-half-requires : tie.Need-half-requires
-half-requires c κs = search needs
+element-copy-out-h : tie.Need-element-copy-out-h
+element-copy-out-h c = search needs
 
 mixed-requires : tie.Need-mixed-requires
 mixed-requires c κs = search needs
 
 returns : tie.Need-returns
 returns c =
-    let a = c .before .before .before .before .args in
-    let n : a .i * 16 + 16 ≤ length (a .addresses .now) = omega arith in
-    rw (c .mixed .ensures, c .before .before .half .ensures)
-    (joined-first (a .addresses .now) (a .i * 16) n (λ i. (c .before .before .before .shared-slice-known .given i) .fits) (a .high) (a .low) (a .bound) (c .before .if1 .taken))
+    let a = c .before .before .before .args in
+    rw (c .mixed .ensures) (sym (join-first (getD (a .highs .now) (a .i) 0) (getD (a .lows .now) (a .i) 0) (a .high) (a .low) (a .bound) (c .before .if1 .taken)))
 
-add-half : tie.Need-add-half
-add-half c = search needs
+mul-mixed : tie.Need-mul-mixed
+mul-mixed c = search needs
 
-half-requires-2 : tie.Need-half-requires-2
-half-requires-2 c κs = search needs
+element-copy-out-mixed : tie.Need-element-copy-out-mixed
+element-copy-out-mixed c = search needs
 
 sub-mixed : tie.Need-sub-mixed
 sub-mixed c = search needs
@@ -37,21 +35,19 @@ mixed-requires-2 c κs = search needs
 
 returns-2 : tie.Need-returns-2
 returns-2 c =
-    let a = c .before .before .before .before .before .args in
-    let n : a .i * 16 + 16 ≤ length (a .addresses .now) = omega arith in
-    rw (c .mixed2 .ensures, c .before .before .before .half .ensures, c .before .half2 .ensures)
-    (joined-last (a .addresses .now) (a .i * 16) n (λ i. (c .before .before .before .before .shared-slice-known .given i) .fits) (a .high) (a .low) (a .bound) (omega (arith, c .before .before .if1 .left)) (omega arith))
+    let a = c .before .before .before .before .args in
+    rw (c .mixed2 .ensures) (sym (join-last (getD (a .highs .now) (a .i) 0) (getD (a .lows .now) (a .i) 0) (a .high) (a .low) (a .bound) (omega (arith, c .before .before .if1 .left)) (omega arith)))
 
 pub joined-spec : {M : Type 1} → statement M
 joined-spec =
     tie.close
     (tie.spec
-    mul-at
-    half-requires
+    mul-h
+    element-copy-out-h
     mixed-requires
     returns
-    add-half
-    half-requires-2
+    mul-mixed
+    element-copy-out-mixed
     sub-mixed
     mixed-requires-2
     returns-2)

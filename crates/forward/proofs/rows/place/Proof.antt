@@ -4,20 +4,21 @@ use mathlib.Core.Path.{sym, _∙_}
 use native.Mathlib.Omega.{arith}
 use borrow.Author.Needs.{needs}
 use Rattle.forward.specs.Halves.{addressOf}
+use Rattle.forward.specs.Rows.{seek}
 use Rattle.forward.proofs.RowsLaws.{Seeking, seeking-start, seeking-right, seeking-left, seeking-end, not-before}
 use Rattle.forward.proofs.rows.place.Statement.{statement}
 use Rattle.forward.proofs.rows.place.Tie as tie
 
 abbrev Inv-loop : tie.InvT-loop
-Inv-loop out count high low from₀ to₀ from to = (from ≤ to) × (to ≤ count) × Seeking out (addressOf high low) count from to
+Inv-loop out a b high low from₀ to₀ from to = (from ≤ to) × (to ≤ b) × Seeking out (addressOf high low) (seek (b - a) out (addressOf high low) a b) from to
 
 abbrev μ-loop : tie.MeasureT-loop
-μ-loop out count high low from₀ to₀ from to = to - from
+μ-loop out a b high low from₀ to₀ from to = to - from
 
 loop-holds : tie.Need-loop-holds Inv-loop μ-loop
 loop-holds c =
     let a = c .before .args in
-    (omega arith, omega arith, seeking-start (a .out .now) (addressOf (a .high) (a .low)) (a .count))
+    (omega arith, omega arith, seeking-start (a .out .now) (addressOf (a .high) (a .low)) (a .a) (a .b))
 
 add-middle : tie.Need-add-middle Inv-loop μ-loop
 add-middle c = search needs
@@ -41,7 +42,7 @@ loop-again : tie.Need-loop-again Inv-loop μ-loop
 loop-again c =
     let a = c .before .before .before .before .before .before .args in
     let l = c .before .before .before .before .loop in
-    (omega arith, l .inv .1, seeking-right (a .out .now) (addressOf (a .high) (a .low)) (a .count) (l .from) (l .to) (c .before .before .before .loop-test .taken) (l .inv .2) (sym (c .before .before .stands .ensures) ∙ c .enum-told .given .1))
+    (omega arith, l .inv .1, seeking-right (a .out .now) (addressOf (a .high) (a .low)) _ (l .from) (l .to) (c .before .before .before .loop-test .taken) (l .inv .2) (sym (c .before .before .stands .ensures) ∙ c .enum-told .given .1))
 
 loop-less-2 : tie.Need-loop-less-2 Inv-loop μ-loop
 loop-less-2 c = search needs
@@ -50,13 +51,13 @@ loop-again-2 : tie.Need-loop-again-2 Inv-loop μ-loop
 loop-again-2 c =
     let a = c .before .before .before .before .before .args in
     let l = c .before .before .before .loop in
-    (omega arith, omega arith, seeking-left (a .out .now) (addressOf (a .high) (a .low)) (a .count) (l .from) (l .to) (c .before .before .loop-test .taken) (l .inv .2) (λ e. not-before (c .before .stands .result) (c .match .keys2) (c .before .stands .ensures ∙ e)))
+    (omega arith, omega arith, seeking-left (a .out .now) (addressOf (a .high) (a .low)) _ (l .from) (l .to) (c .before .before .loop-test .taken) (l .inv .2) (λ e. not-before (c .before .stands .result) (c .match .keys2) (c .before .stands .ensures ∙ e)))
 
 returns : tie.Need-returns Inv-loop μ-loop
 returns c =
     let a = c .before .before .before .args in
     let l = c .before .loop in
-    (seeking-end (a .out .now) (addressOf (a .high) (a .low)) (a .count) (l .from) (l .to) (omega arith) (l .inv .2), omega arith)
+    (seeking-end (a .out .now) (addressOf (a .high) (a .low)) _ (l .from) (l .to) (omega arith) (l .inv .2), omega arith)
 
 pub place-spec : {M : Type 1} → statement M
 place-spec =

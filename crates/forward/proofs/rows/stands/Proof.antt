@@ -3,7 +3,8 @@ use Prim.Native.Nat.{_+_}
 use mathlib.Core.Path.{sym}
 use native.Mathlib.Omega.{arith}
 use borrow.Author.Needs.{needs}
-use Rattle.forward.proofs.HalvesLaws.{stands-before, stands-after, stands-same, value-half}
+use Rattle.octets.proofs.NumberLaws.{value-half}
+use Rattle.forward.proofs.HalvesLaws.{stands-before, stands-after, stands-same}
 use Rattle.forward.proofs.rows.stands.Statement.{statement}
 use Rattle.forward.proofs.rows.stands.Tie as tie
 

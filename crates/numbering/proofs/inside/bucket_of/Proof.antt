@@ -2,16 +2,12 @@
 use Prim.Native.Nat.{ℕ, _%_}
 use mathlib.Core.Path.{ap, _∙_}
 use borrow.Author.Needs.{needs}
-use Rattle.names.proofs.StandardLaws.{in-standard}
-use Rattle.names.proofs.MergeLaws.{begins-start}
 use Rattle.numbering.specs.Buckets.{buckets, bucketOf}
 use Rattle.numbering.proofs.inside.bucket_of.Statement.{statement}
 use Rattle.numbering.proofs.inside.bucket_of.Tie as tie
 
 mark-requires : tie.Need-mark-requires
-mark-requires c κs =
-    let name = c .before .args .name .now in
-    begins-start name (in-standard name (c .before .pre) .0) .short
+mark-requires c κs = search needs
 
 wide-requires : tie.Need-wide-requires
 wide-requires c κs = search needs

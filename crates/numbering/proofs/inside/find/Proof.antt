@@ -1,40 +1,34 @@
 -- `numbering::inside::find` meets its contract: the names from the one that is looked at next on are others. Assumes nothing.
-use Prim.Native.Nat.{ℕ, _-_, _<_}
+use Prim.Native.Nat.{ℕ, _-_}
 use mathlib.Core.Path.{_≡_, ap, sym, _∙_}
 use mathlib.Core.List.{List}
 use native.Mathlib.Omega.{arith}
 use lib.ListN.{getD}
-use denote.Ref.{now}
-use mathlib.Core.Bool.{true}
-use Rattle.names.specs.Standard.{sameName, inStandardForm}
-use Rattle.numbering.specs.Buckets.{nameAt}
+use Rattle.names.specs.Standard.{sameName}
+use Rattle.plan.specs.Layout.{nameIn}
+use Rattle.numbering.specs.Buckets.{slotAt, nameAt}
 use Rattle.numbering.proofs.ListingLaws.{Seeking, bucket-small, seek-start, seek-more, seek-found, seek-none, link-falls}
 use Rattle.numbering.proofs.inside.find.Statement.{statement}
 use Rattle.numbering.proofs.inside.find.Tie as tie
 
 abbrev Inv-loop : tie.InvT-loop
-Inv-loop table name bucket head link places count next₀ next = Seeking table places name count next
+Inv-loop table slot bucket head link places count next₀ next = Seeking table places slot count next
 
 abbrev μ-loop : tie.MeasureT-loop
-μ-loop table name bucket head link places count next₀ next = next
+μ-loop table slot bucket head link places count next₀ next = next
 
--- the name that is looked at, compared
-compared : (c : tie.After-equal Inv-loop μ-loop) →
-    c .equal .result ≡ sameName (nameAt (c .before .before .before .before .before .before .before .before .before .before .before .before .before .args .table .now) (getD (c .before .before .before .before .before .before .before .before .before .before .before .before .before .args .places .now) (c .before .before .before .before .before .loop .next - 1) 0)) (c .before .before .before .before .before .before .before .before .before .before .before .before .before .args .name .now)
+-- the slot that is looked at, compared
+compared : (c : tie.After-same Inv-loop μ-loop) → let a = c .before .before .before .before .before .before .before .before .before .before .before .before .before .args in
+    c .same .result ≡ sameName (nameAt (a .table .now) (getD (a .places .now) (c .before .before .before .before .before .loop .next - 1) 0)) (nameIn (a .slot .now))
 compared c =
     let a = c .before .before .before .before .before .before .before .before .before .before .before .before .before .args in
-    let w = c .before .before .before .before .before .before .before .before .before .before .before .before .before .pre in
-    let k = c .before .before .before .before .before .loop .next - 1 in
-    let e : now (c .before .name-at .result) ≡ nameAt (a .table .now) (getD (a .places .now) k 0) = c .before .name-at .ensures ∙ ap (nameAt (a .table .now)) (c .before .before .wide2 .ensures) in
-    let l : k < a .count = omega arith in
-    let p : inStandardForm (now (c .before .name-at .result)) ≡ true = rw e (w .0 .named k l .standard) in
-    c .equal .ensures .1 p (w .1) ∙ ap (λ (x : List ℕ). sameName x (a .name .now)) e
+    c .same .ensures ∙ ap (λ (x : List ℕ). sameName (nameIn x) (nameIn (a .slot .now))) (c .before .slot-at .ensures .0 ∙ ap (slotAt (a .table .now)) (c .before .before .wide2 .ensures))
 
 mul-wide : tie.Need-mul-wide Inv-loop μ-loop
-mul-wide c = omega (arith, bucket-small (c .before .before .before .before .before .args .name .now))
+mul-wide c = omega (arith, bucket-small (c .before .before .before .before .before .args .slot .now))
 
 shared-slice-read-wide : tie.Need-shared-slice-read-wide Inv-loop μ-loop
-shared-slice-read-wide c = omega (arith, bucket-small (c .before .before .before .before .before .before .args .name .now))
+shared-slice-read-wide c = omega (arith, bucket-small (c .before .before .before .before .before .before .args .slot .now))
 
 wide-requires : tie.Need-wide-requires Inv-loop μ-loop
 wide-requires c κs = tt
@@ -43,8 +37,8 @@ loop-holds : tie.Need-loop-holds Inv-loop μ-loop
 loop-holds c =
     let a = c .before .before .before .before .before .before .before .args in
     let w = c .before .before .before .before .before .before .before .pre in
-    seek-start (a .table .now) (a .head .now) (a .link .now) (a .places .now) (a .count) (w .0) (a .name .now) (w .1) (c .wide .result)
-    (c .wide .ensures ∙ rw (w .2))
+    seek-start (a .table .now) (a .head .now) (a .link .now) (a .places .now) (a .count) (w .0) (a .slot .now) (w .2) (c .wide .result)
+    (c .wide .ensures ∙ rw (w .3))
 
 sub-number : tie.Need-sub-number Inv-loop μ-loop
 sub-number c = omega arith
@@ -58,20 +52,24 @@ shared-slice-read-wide-2 c = omega arith
 wide-requires-2 : tie.Need-wide-requires-2 Inv-loop μ-loop
 wide-requires-2 c κs = tt
 
-name-at-requires : tie.Need-name-at-requires Inv-loop μ-loop
-name-at-requires c κs =
+slot-at-requires : tie.Need-slot-at-requires Inv-loop μ-loop
+slot-at-requires c κs =
     let l = c .before .before .before .loop in
     rw (c .wide2 .ensures) (c .before .before .before .before .before .before .before .before .before .before .before .pre .0 .named (l .next - 1) (omega arith))
 
-equal-requires : tie.Need-equal-requires Inv-loop μ-loop
-equal-requires c κs = tt
+same-requires : tie.Need-same-requires Inv-loop μ-loop
+same-requires c κs =
+    let w = c .before .before .before .before .before .before .before .before .before .before .before .before .pre in
+    let l = c .before .before .before .before .loop in
+    let e = c .slot-at .ensures .0 ∙ ap (slotAt (c .before .before .before .before .before .before .before .before .before .before .before .before .args .table .now)) (c .before .wide2 .ensures) in
+    ((c .slot-at .ensures .1, w .1), (rw e (w .0 .named (l .next - 1) (omega arith) .holds .name), w .2 .name))
 
 returns : tie.Need-returns Inv-loop μ-loop
 returns c =
     let a = c .before .before .before .before .before .before .before .before .before .before .before .before .before .before .args in
     let w = c .before .before .before .before .before .before .before .before .before .before .before .before .before .before .pre in
     let l = c .before .before .before .before .before .before .loop in
-    seek-found (a .table .now) (a .head .now) (a .link .now) (a .places .now) (a .count) (w .0) (a .name .now) (w .1) (l .next - 1) (omega arith)
+    seek-found (a .table .now) (a .head .now) (a .link .now) (a .places .now) (a .count) (w .0) (a .slot .now) (w .2) (l .next - 1) (omega arith)
     (sym (compared (c .before)) ∙ c .if1 .taken)
 
 mul-wide-3 : tie.Need-mul-wide-3 Inv-loop μ-loop
@@ -88,7 +86,7 @@ loop-less c =
     let a = c .before .before .before .before .before .before .before .before .before .before .before .before .before .before .before .before .args in
     let w = c .before .before .before .before .before .before .before .before .before .before .before .before .before .before .before .before .pre in
     let l = c .before .before .before .before .before .before .before .before .loop in
-    let f = link-falls (a .table .now) (a .head .now) (a .link .now) (a .places .now) (a .count) (w .0) (a .name .now) (w .1) (l .next - 1) (omega arith) in
+    let f = link-falls (a .table .now) (a .head .now) (a .link .now) (a .places .now) (a .count) (w .0) (a .slot .now) (w .2) (l .next - 1) (omega arith) in
     omega arith
 
 loop-again : tie.Need-loop-again Inv-loop μ-loop
@@ -96,7 +94,7 @@ loop-again c =
     let a = c .before .before .before .before .before .before .before .before .before .before .before .before .before .before .before .before .args in
     let w = c .before .before .before .before .before .before .before .before .before .before .before .before .before .before .before .before .pre in
     let l = c .before .before .before .before .before .before .before .before .loop in
-    seek-more (a .table .now) (a .head .now) (a .link .now) (a .places .now) (a .count) (w .0) (a .name .now) (w .1) (l .next - 1) (l .next) (c .wide3 .result)
+    seek-more (a .table .now) (a .head .now) (a .link .now) (a .places .now) (a .count) (w .0) (a .slot .now) (w .2) (l .next - 1) (l .next) (c .wide3 .result)
     (l .inv) (omega arith) (sym (compared (c .before .before .before)) ∙ c .before .before .if1 .left) (c .wide3 .ensures)
 
 returns-2 : tie.Need-returns-2 Inv-loop μ-loop
@@ -104,7 +102,7 @@ returns-2 c =
     let a = c .before .before .before .before .before .before .before .before .before .args in
     let w = c .before .before .before .before .before .before .before .before .before .pre in
     let l = c .before .loop in
-    seek-none (a .table .now) (a .head .now) (a .link .now) (a .places .now) (a .count) (w .0) (a .name .now) (w .1) (l .next) (l .inv) (omega arith)
+    seek-none (a .table .now) (a .head .now) (a .link .now) (a .places .now) (a .count) (w .0) (a .slot .now) (w .2) (l .next) (l .inv) (omega arith)
 
 pub find-spec : {M : Type 1} → statement M
 find-spec =
@@ -120,8 +118,8 @@ find-spec =
     mul-wide-2
     shared-slice-read-wide-2
     wide-requires-2
-    name-at-requires
-    equal-requires
+    slot-at-requires
+    same-requires
     returns
     mul-wide-3
     shared-slice-read-wide-3

@@ -1,34 +1,38 @@
 -- `numbering::inside::meet` meets its contract: a name that `find` finds is in the list, any other goes to its end. Assumes nothing.
-use Prim.Native.Nat.{_<_}
+use Prim.Native.Nat.{ℕ, _<_}
 use mathlib.Core.Path.{_≡_, ap, _∙_}
 use native.Mathlib.Omega.{arith}
 use borrow.Author.Needs.{needs}
-use denote.Ref.{now}
+use mathlib.Core.List.{List}
+use Rattle.plan.specs.Layout.{nameIn}
 use Rattle.numbering.specs.Numbers.{numberIn}
-use Rattle.numbering.specs.Buckets.{buckets, nameAt, held, bucketOf}
+use Rattle.numbering.specs.Buckets.{buckets, slotAt, nameAt, held, bucketOf}
 use Rattle.numbering.proofs.ListingLaws.{bucket-small, meets-known, meets-new, number-new-is}
 use Rattle.numbering.proofs.inside.meet.Statement.{statement}
 use Rattle.numbering.proofs.inside.meet.Tie as tie
 
--- the bucket of the name at the place
-bucket-is : (c : tie.After-bucket-of) → c .bucket-of .result ≡ bucketOf (nameAt (c .before .before .before .before .before .before .args .table .now) (c .before .before .before .before .before .before .args .place))
-bucket-is c = c .bucket-of .ensures ∙ ap bucketOf (c .before .name-at .ensures)
+-- the bucket of the slot at the place
+bucket-is : (c : tie.After-bucket-of) → let a = c .before .before .before .before .before .before .args in c .bucket-of .result ≡ bucketOf (slotAt (a .table .now) (a .place))
+bucket-is c = c .bucket-of .ensures ∙ ap bucketOf (c .before .slot-at .ensures .0)
 
 bucket-fits : (c : tie.After-bucket-of) → c .bucket-of .result < buckets
-bucket-fits c = rw (bucket-is c) (bucket-small (nameAt (c .before .before .before .before .before .before .args .table .now) (c .before .before .before .before .before .before .args .place)))
+bucket-fits c = rw (bucket-is c) (bucket-small (slotAt (c .before .before .before .before .before .before .args .table .now) (c .before .before .before .before .before .before .args .place)))
 
--- its number in the list
-number-is : (c : tie.After-find) → c .find .result ≡ numberIn (held (c .before .before .before .before .before .before .before .before .before .before .args .table .now) (c .before .before .before .before .before .before .before .before .before .before .args .places .now) (c .before .before .before .before .before .before .before .before .before .before .args .count)) (nameAt (c .before .before .before .before .before .before .before .before .before .before .args .table .now) (c .before .before .before .before .before .before .before .before .before .before .args .place))
-number-is c = c .find .ensures ∙ ap (numberIn (held (c .before .before .before .before .before .before .before .before .before .before .args .table .now) (c .before .before .before .before .before .before .before .before .before .before .args .places .now) (c .before .before .before .before .before .before .before .before .before .before .args .count))) (c .before .before .before .before .before .name-at .ensures)
+-- the number of its name in the list
+number-is : (c : tie.After-find) → let a = c .before .before .before .before .before .before .before .before .before .before .args in c .find .result ≡ numberIn (held (a .table .now) (a .places .now) (a .count)) (nameAt (a .table .now) (a .place))
+number-is c = let a = c .before .before .before .before .before .before .before .before .before .before .args in c .find .ensures ∙ ap (λ (s : List ℕ). numberIn (held (a .table .now) (a .places .now) (a .count)) (nameIn s)) (c .before .before .before .before .before .slot-at .ensures .0)
 
-name-at-requires : tie.Need-name-at-requires
-name-at-requires c κs = search needs
+slot-at-requires : tie.Need-slot-at-requires
+slot-at-requires c κs = search needs
 
 bucket-of-requires : tie.Need-bucket-of-requires
-bucket-of-requires c κs = rw (c .name-at .ensures) (c .before .before .before .before .before .pre .1 .standard)
+bucket-of-requires c κs = c .slot-at .ensures .1
 
 find-requires : tie.Need-find-requires
-find-requires c κs = (c .before .before .before .before .before .before .before .before .before .pre .0, rw (c .before .before .before .before .name-at .ensures) (c .before .before .before .before .before .before .before .before .before .pre .1 .standard), c .before .before .before .bucket-of .ensures)
+find-requires c κs =
+    let w = c .before .before .before .before .before .before .before .before .before .pre in
+    let s = c .before .before .before .before .slot-at .ensures in
+    (w .0, s .1, rw (s .0) (w .1 .holds), c .before .before .before .bucket-of .ensures)
 
 cast-t17 : tie.Need-cast-t17
 cast-t17 c = search needs
@@ -106,7 +110,7 @@ pub meet-spec : {M : Type 1} → statement M
 meet-spec =
     tie.close
     (tie.spec
-    name-at-requires
+    slot-at-requires
     bucket-of-requires
     find-requires
     cast-t17

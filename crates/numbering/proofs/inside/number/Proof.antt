@@ -1,9 +1,13 @@
 -- `numbering::inside::number` meets its contract: the list is empty before the records are numbered, and complete when the name is looked for. Assumes nothing.
-use mathlib.Core.Path.{ap, _∙_}
-use mathlib.Core.List.{List}
-use Prim.Native.Nat.{ℕ}
+use Prim.Native.Nat.{_≤_}
+use mathlib.Core.Path.{_≡_, ap, _∙_}
+use lib.ListN.{length}
 use borrow.Author.Needs.{needs}
 use Rattle.octets.specs.Octets.{blank}
+use Rattle.names.proofs.StandardLaws.{in-standard}
+use Rattle.names.proofs.MergeLaws.{begins-start}
+use Rattle.plan.specs.Layout.{nameRoom, slotSize, nameIn}
+use Rattle.plan.proofs.SlotLaws.{slot-size, name-made, holds-made}
 use Rattle.numbering.specs.Numbers.{numberIn}
 use Rattle.numbering.proofs.ListingLaws.{listing-none}
 use Rattle.numbering.proofs.inside.number.Statement.{statement}
@@ -22,11 +26,24 @@ number-all-requires : tie.Need-number-all-requires
 unfolding blank
 number-all-requires c κs = let s = c .before .before .before .before .before .before .before .before .before in ((s .pre .0 .0, listing-none (s .args .table .now)), s .pre .1)
 
-bucket-of-requires : tie.Need-bucket-of-requires
-bucket-of-requires c κs = search needs
+-- the name is not too long, and its slot is one
+short : (c : tie.After-places2) → length (c .before .before .before .before .before .before .before .before .before .before .before .before .before .before .before .before .before .args .name .now) ≤ nameRoom
+short c = let s = c .before .before .before .before .before .before .before .before .before .before .before .before .before .before .before .before .before in begins-start (s .args .name .now) (in-standard (s .args .name .now) (s .pre .0 .1) .0) .short
+
+slot-length : (c : tie.After-slot-of) → length (c .slot-of .result) ≡ slotSize
+slot-length c = ap length (c .slot-of .ensures) ∙ slot-size (c .before .before .before .before .before .before .before .before .before .before .before .before .before .before .before .before .before .before .args .name .now) (short (c .before))
+
+slot-of-requires : tie.Need-slot-of-requires
+slot-of-requires c κs = short c
 
 slice-aggregate-find : tie.Need-slice-aggregate-find
 slice-aggregate-find c = search needs
+
+slice-aggregate-bucket-of : tie.Need-slice-aggregate-bucket-of
+slice-aggregate-bucket-of c = search needs
+
+bucket-of-requires : tie.Need-bucket-of-requires
+bucket-of-requires c κs = search needs
 
 slice-aggregate-find-2 : tie.Need-slice-aggregate-find-2
 slice-aggregate-find-2 c = search needs
@@ -34,8 +51,14 @@ slice-aggregate-find-2 c = search needs
 slice-aggregate-find-3 : tie.Need-slice-aggregate-find-3
 slice-aggregate-find-3 c = search needs
 
+slice-aggregate-find-4 : tie.Need-slice-aggregate-find-4
+slice-aggregate-find-4 c = search needs
+
 find-requires : tie.Need-find-requires
-find-requires c κs = search needs
+find-requires c κs =
+    let s = c .before .before .before .before .before .before .before .before .before .before .before .before .before .before .before .before .before .before .before .before .before .before .before .before in
+    let e = c .before .before .before .before .before .before .slot-of .ensures in
+    (c .before .before .before .before .before .before .before .before .before .before .before .before .before .before .number-all .ensures .0 .kept, slot-length (c .before .before .before .before .before .before), rw e (holds-made (s .args .name .now) (s .pre .0 .1)), c .before .before .before .bucket-of .ensures)
 
 same-length : tie.Need-same-length
 same-length c = search needs
@@ -45,9 +68,10 @@ same-length-2 c = search needs
 
 returns : tie.Need-returns
 returns c =
-    let a = c .before .before .before .before .before .before .before .before .before .before .before .before .before .before .before .before .before .before .before .before .before .before .args in
-    let n = c .before .before .before .before .before .before .before .before .before .before .before .before .number-all .ensures in
-    (c .find .ensures ∙ ap (λ (ns : List (List ℕ)). numberIn ns (a .name .now)) (n .0 .all), n .1)
+    let a = c .before .before .before .before .before .before .before .before .before .before .before .before .before .before .before .before .before .before .before .before .before .before .before .before .before .args in
+    let n = c .before .before .before .before .before .before .before .before .before .before .before .before .before .before .before .number-all .ensures in
+    let e = ap nameIn (c .before .before .before .before .before .before .before .slot-of .ensures) ∙ name-made (a .name .now) in
+    (c .find .ensures ∙ (λ i. numberIn (n .0 .all i) (e i)), n .1)
 
 pub number-spec : {M : Type 1} → statement M
 number-spec =
@@ -57,10 +81,13 @@ number-spec =
     slice-aggregate-number-all-2
     slice-aggregate-number-all-3
     number-all-requires
-    bucket-of-requires
+    slot-of-requires
     slice-aggregate-find
+    slice-aggregate-bucket-of
+    bucket-of-requires
     slice-aggregate-find-2
     slice-aggregate-find-3
+    slice-aggregate-find-4
     find-requires
     same-length
     same-length-2

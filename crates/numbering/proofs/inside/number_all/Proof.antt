@@ -5,8 +5,7 @@ use native.Mathlib.Omega.{arith}
 use Rattle.plan.specs.Layout.{maxRecords, countOf}
 use Rattle.plan.proofs.OrderLaws.{order-count}
 use Rattle.numbering.specs.Buckets.{maxNames}
-use Rattle.numbering.proofs.OrderLaws.{owner-named}
-use Rattle.numbering.proofs.NumberingLaws.{Going, going-none, going-more, going-all}
+use Rattle.numbering.proofs.NumberingLaws.{Going, going-none, going-before, going-more, going-all}
 use Rattle.numbering.proofs.inside.number_all.Statement.{statement}
 use Rattle.numbering.proofs.inside.number_all.Tie as tie
 
@@ -32,37 +31,35 @@ loop-holds c =
     let a = c .before .before .before .before .before .before .before .args in
     (c .count .ensures, going-none (a .table .now) (a .own .now) (a .target .now) (a .head .now) (a .link .now) (a .places .now) (c .before .before .before .before .before .before .before .pre .0 .1))
 
-mul-meet : tie.Need-mul-meet Inv-loop μ-loop
-mul-meet c = omega (arith, few c)
-
-meet-requires : tie.Need-meet-requires Inv-loop μ-loop
-meet-requires c κs =
-    let a = c .before .before .before .before .before .before .before .before .before .before .before .before .args in
-    let g = c .before .before .before .before .loop .inv .1 in
-    let m = few (c .before .before .before) in
-    (g .listing, owner-named (a .table .now) (c .before .before .before .before .before .before .before .before .before .before .before .before .pre .0 .0) (c .before .before .before .before .loop .i) (here (c .before .before .before)), omega arith)
+meet-owner-requires : tie.Need-meet-owner-requires Inv-loop μ-loop
+meet-owner-requires c κs =
+    let a = c .before .before .before .before .before .before .before .before .before .before .before .before .before .args in
+    let w = c .before .before .before .before .before .before .before .before .before .before .before .before .before .pre in
+    let l = c .before .before .before .before .before .loop in
+    let g = l .inv .1 in
+    let m = few (c .before .before .before .before) in
+    let h = here (c .before .before .before .before) in
+    ((w .0 .0, g .listing), (h, omega arith, going-before (a .table .now) (a .own .now) (a .target .now) (l .own) (l .target) (l .head) (l .link) (l .places) (l .count) (l .i) g h (w .1 .0)))
 
 mul-own : tie.Need-mul-own Inv-loop μ-loop
-mul-own c = omega (arith, few (c .before .before .before .before .before .before .before .before .before .before))
+mul-own c = omega (arith, few (c .before .before .before .before .before .before .before .before .before .before .before))
 
 slice-write-own : tie.Need-slice-write-own Inv-loop μ-loop
 slice-write-own c = omega arith
 
 meet-target-requires : tie.Need-meet-target-requires Inv-loop μ-loop
 meet-target-requires c κs =
-    let a = c .before .before .before .before .before .before .before .before .before .before .before .before .before .before .before .before .before .before .before .before .before .before .args in
-    let g = c .before .before .before .before .before .before .before .before .before .before .before .before .before .before .loop .inv .1 in
-    let m = few (c .before .before .before .before .before .before .before .before .before .before .before .before .before) in
-    let h = here (c .before .before .before .before .before .before .before .before .before .before .before .before .before) in
-    let w = c .before .before .before .before .before .before .before .before .before .meet .ensures in
-    let r : c .before .before .before .before .before .before .before .before .before .meet .result .count < maxNames = let u = w .most in let v = g .less in omega arith in
-    ((c .before .before .before .before .before .before .before .before .before .before .before .before .before .before .before .before .before .before .before .before .before .before .pre .0 .0, w .listing), (h, r))
+    let g = c .before .before .before .before .before .before .before .before .before .before .before .before .before .before .before .loop .inv .1 in
+    let m = few (c .before .before .before .before .before .before .before .before .before .before .before .before .before .before) in
+    let o = c .before .before .before .before .before .before .before .before .before .meet-owner in
+    let r : o .result .count < maxNames = let u = o .ensures .most in let v = g .less in omega arith in
+    ((c .before .before .before .before .before .before .before .before .before .before .before .before .before .before .before .before .before .before .before .before .before .before .before .pre .0 .0, o .ensures .listing), (here (c .before .before .before .before .before .before .before .before .before .before .before .before .before .before), r))
 
 mul-target : tie.Need-mul-target Inv-loop μ-loop
-mul-target c = omega (arith, few (c .before .before .before .before .before .before .before .before .before .before .before .before .before .before .before .before .before .before .before .before))
+mul-target c = omega (arith, few (c .before .before .before .before .before .before .before .before .before .before .before .before .before .before .before .before .before .before .before .before .before))
 
 slice-write-target : tie.Need-slice-write-target Inv-loop μ-loop
-slice-write-target c = omega (arith, here (c .before .before .before .before .before .before .before .before .before .before .before .before .before .before .before .before .before .before .before .before), c .before .before .before .before .before .before .before .before .before .before .before .before .before .before .before .before .before .before .before .before .before .loop .inv .1 .target-kept, c .before .before .before .before .before .before .before .before .before .before .before .before .before .before .before .before .before .before .before .before .before .before .before .before .before .before .before .before .before .pre .1 .1)
+slice-write-target c = omega (arith, here (c .before .before .before .before .before .before .before .before .before .before .before .before .before .before .before .before .before .before .before .before .before), c .before .before .before .before .before .before .before .before .before .before .before .before .before .before .before .before .before .before .before .before .before .before .loop .inv .1 .target-kept, c .before .before .before .before .before .before .before .before .before .before .before .before .before .before .before .before .before .before .before .before .before .before .before .before .before .before .before .before .before .before .pre .1 .1)
 
 add-i : tie.Need-add-i Inv-loop μ-loop
 add-i c = omega arith
@@ -72,13 +69,13 @@ loop-less c = omega arith
 
 loop-again : tie.Need-loop-again Inv-loop μ-loop
 loop-again c =
-    let a = c .before .before .before .before .before .before .before .before .before .before .before .before .before .before .before .before .before .before .before .before .before .before .before .before .before .before .before .before .before .args in
-    let l = c .before .before .before .before .before .before .before .before .before .before .before .before .before .before .before .before .before .before .before .before .before .loop in
-    let m = c .before .before .before .before .before .before .before .before .before .before .before .before .before .before .before .before .meet in
+    let a = c .before .before .before .before .before .before .before .before .before .before .before .before .before .before .before .before .before .before .before .before .before .before .before .before .before .before .before .before .before .before .args in
+    let l = c .before .before .before .before .before .before .before .before .before .before .before .before .before .before .before .before .before .before .before .before .before .before .loop in
+    let m = c .before .before .before .before .before .before .before .before .before .before .before .before .before .before .before .before .meet-owner in
     let n = c .before .before .before .before .before .before .meet-target in (
       l .inv .0,
-      going-more (a .table .now) (a .own .now) (a .target .now) (l .own) (l .target) (l .head) (l .link) (l .places) (l .count) (l .i) (l .inv .1) (here (c .before .before .before .before .before .before .before .before .before .before .before .before .before .before .before .before .before .before .before .before))
-          (m .last .1 .1 .0) (m .last .1 .1 .1 .0) (m .last .1 .1 .1 .1 .0) (n .last .1 .1 .0) (n .last .1 .1 .1 .0) (n .last .1 .1 .1 .1 .0) (m .result) (n .result) (m .ensures) (n .ensures),
+      going-more (a .table .now) (a .own .now) (a .target .now) (l .own) (l .target) (l .head) (l .link) (l .places) (l .count) (l .i) (l .inv .1) (here (c .before .before .before .before .before .before .before .before .before .before .before .before .before .before .before .before .before .before .before .before .before))
+          (m .last .1 .1 .1 .0) (m .last .1 .1 .1 .1 .0) (m .last .1 .1 .1 .1 .1 .0) (n .last .1 .1 .0) (n .last .1 .1 .1 .0) (n .last .1 .1 .1 .1 .0) (m .result) (n .result) (m .ensures) (n .ensures),
     )
 
 same-length : tie.Need-same-length Inv-loop μ-loop
@@ -111,8 +108,7 @@ number-all-spec =
     μ-loop
     count-requires
     loop-holds
-    mul-meet
-    meet-requires
+    meet-owner-requires
     mul-own
     slice-write-own
     meet-target-requires

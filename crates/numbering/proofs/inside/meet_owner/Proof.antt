@@ -1,0 +1,74 @@
+-- `numbering::inside::meet_owner` meets its contract: an owner that is seen to be the same has the number that is noted. Assumes nothing.
+use Prim.Native.Nat.{_<_}
+use mathlib.Core.Path.{sym, _∙_}
+use native.Mathlib.Omega.{arith}
+use borrow.Author.Needs.{needs}
+use Rattle.plan.proofs.OrderLaws.{order-count}
+use Rattle.numbering.specs.Buckets.{held}
+use Rattle.numbering.proofs.OrderLaws.{owner-named}
+use Rattle.numbering.proofs.ListingLaws.{again-after, meets-again, meets-owner}
+use Rattle.numbering.proofs.inside.meet_owner.Statement.{statement}
+use Rattle.numbering.proofs.inside.meet_owner.Tie as tie
+
+-- there is a record before
+after : (c : tie.Then1) → 0 < c .before .before .before .before .before .before .before .args .index
+after c = let a = c .before .before .before .before .before .before .before .args in again-after (a .table .now) (a .index) (sym (c .before .is-again .ensures) ∙ c .if1 .taken)
+
+is-again-requires : tie.Need-is-again-requires
+is-again-requires c κs = search needs
+
+sub-t9 : tie.Need-sub-t9
+sub-t9 c = omega (arith, after c)
+
+mul-t10 : tie.Need-mul-t10
+mul-t10 c = omega (arith, after c, c .before .before .before .before .before .before .before .pre .1 .2 .noted)
+
+shared-slice-read-t12 : tie.Need-shared-slice-read-t12
+shared-slice-read-t12 c = omega (arith, after (c .before), c .before .before .before .before .before .before .before .before .pre .1 .2 .noted)
+
+returns : tie.Need-returns
+returns c =
+    let a = c .before .before .before .before .before .before .before .before .args in
+    let w = c .before .before .before .before .before .before .before .before .pre in
+    meets-again (a .table .now) (a .index) (a .own .now) (a .head .now) (a .link .now) (a .places .now) (a .count) (w .0 .1) (w .1 .2) (sym (c .before .before .is-again .ensures) ∙ c .before .if1 .taken)
+
+mul-meet : tie.Need-mul-meet
+mul-meet c = let s = c .before .before .before .before .before .before .before in omega (arith, order-count (s .args .table .now) (s .pre .0 .0))
+
+meet-requires : tie.Need-meet-requires
+meet-requires c κs =
+    let a = c .before .before .before .before .before .before .before .before .before .before .args in
+    let w = c .before .before .before .before .before .before .before .before .before .before .pre in
+    (w .0 .1, owner-named (a .table .now) (w .0 .0) (a .index) (w .1 .0), w .1 .1)
+
+same-length : tie.Need-same-length
+same-length c = search needs
+
+same-length-2 : tie.Need-same-length-2
+same-length-2 c = search needs
+
+same-length-3 : tie.Need-same-length-3
+same-length-3 c = search needs
+
+returns-2 : tie.Need-returns-2
+returns-2 c =
+    let a = c .before .before .before .before .before .before .before .before .before .before .before .before .before .before .before .before .before .args in
+    let m = c .before .before .before .before .before .before .meet in
+    let ns = held (a .table .now) (a .places .now) (a .count) in
+    meets-owner (a .table .now) (a .index) (m .last .1 .1 .0) (m .last .1 .1 .1 .0) (m .last .1 .1 .1 .1 .0) (a .count) ns (m .result) (m .ensures)
+
+pub meet-owner-spec : {M : Type 1} → statement M
+meet-owner-spec =
+    tie.close
+    (tie.spec
+    is-again-requires
+    sub-t9
+    mul-t10
+    shared-slice-read-t12
+    returns
+    mul-meet
+    meet-requires
+    same-length
+    same-length-2
+    same-length-3
+    returns-2)

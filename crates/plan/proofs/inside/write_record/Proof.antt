@@ -1,0 +1,70 @@
+-- `plan::inside::write_record` meets its contract: four copies, each where the one before it ended. Assumes nothing.
+use mathlib.Core.Path.{_≡_}
+use lib.ListN.{length}
+use Rattle.plan.specs.Layout.{addressSize}
+use Rattle.plan.proofs.WriteLaws.{record-written}
+use borrow.Author.Needs.{needs}
+use Rattle.plan.proofs.inside.write_record.Statement.{statement}
+use Rattle.plan.proofs.inside.write_record.Tie as tie
+
+cast-t11 : tie.Need-cast-t11
+cast-t11 c = search needs
+
+cast-t13 : tie.Need-cast-t13
+cast-t13 c = search needs
+
+slice-aggregate-copy : tie.Need-slice-aggregate-copy
+slice-aggregate-copy c = search needs
+
+copy-requires : tie.Need-copy-requires
+copy-requires c κs = search needs
+
+slice-aggregate-copy-2 : tie.Need-slice-aggregate-copy-2
+slice-aggregate-copy-2 c = search needs
+
+add-copy : tie.Need-add-copy
+add-copy c = search needs
+
+copy-requires-2 : tie.Need-copy-requires-2
+copy-requires-2 c κs = search needs
+
+add-copy-2 : tie.Need-add-copy-2
+add-copy-2 c = search needs
+
+copy-requires-3 : tie.Need-copy-requires-3
+copy-requires-3 c κs = search needs
+
+add-copy-3 : tie.Need-add-copy-3
+add-copy-3 c = search needs
+
+copy-requires-4 : tie.Need-copy-requires-4
+copy-requires-4 c κs = search needs
+
+same-length : tie.Need-same-length
+same-length c = search needs
+
+returns : tie.Need-returns
+returns c =
+    let a = c .before .before .before .before .before .before .before .before .before .before .before .before .before .before .before .before .before .before .before .before .before .args in
+    let w = c .before .before .before .before .before .before .before .before .before .before .before .before .before .before .before .before .before .before .before .before .before .pre in
+    let l : length (a .t3) ≡ addressSize = search needs in
+    record-written (a .out .now) _ _ _ _ (a .t3) (a .owner .now) (a .target .now) (a .kind) (a .prefix) (a .to) l (w .0) (w .1) (w .2)
+    (c .before .before .before .before .before .before .before .before .before .before .before .before .before .before .before .copy .ensures) (c .before .before .before .before .before .before .before .before .before .before .copy2 .ensures) (c .before .before .before .before .before .before .copy3 .ensures) (c .before .before .copy4 .ensures)
+
+pub write-record-spec : {M : Type 1} → statement M
+write-record-spec =
+    tie.close
+    (tie.spec
+    cast-t11
+    cast-t13
+    slice-aggregate-copy
+    copy-requires
+    slice-aggregate-copy-2
+    add-copy
+    copy-requires-2
+    add-copy-2
+    copy-requires-3
+    add-copy-3
+    copy-requires-4
+    same-length
+    returns)

@@ -1,0 +1,32 @@
+//! The benchmark's table: it has a row for each figure that the design bounds. What the rows say is not judged here.
+
+use std::process::Command;
+
+#[test]
+fn the_table_has_a_row_for_every_figure() {
+    let run = Command::new(env!("CARGO_BIN_EXE_bench")).arg("1").output().expect("the benchmark runs");
+    assert!(run.status.success(), "{}", String::from_utf8_lossy(&run.stderr));
+    let table = String::from_utf8(run.stdout).expect("text");
+    for line in table.lines() {
+        assert_eq!(line.matches('|').count(), 7, "{line}");
+    }
+    for figure in [
+        "one chain, two records a name, 120 records",
+        "one chain, two records a name, 1,024 records",
+        "one chain, two records a name, most over least at 64, 256 and 1,024 records",
+        "one chain, 8 loops and 8 finished records of one name",
+        "one chain, 1,024 loops of one name",
+        "check, full realistic table",
+        "check, one A6 record, most over least at 64, 256 and 1,024 records",
+        "lookup of a host, full realistic table",
+        "lookup of a host, over the check of the table",
+        "reverse, five rewrites, full realistic table",
+        "collapse of a carrier, full realistic table",
+        "A6 read, usual data",
+        "A6 write, usual values",
+        "stack of a lookup, a chain of 1,024 records",
+        "`rt ci` from nothing",
+    ] {
+        assert!(table.contains(&format!("\n| {figure} |")), "{figure}");
+    }
+}
