@@ -10,11 +10,11 @@ use native.Mathlib.Omega.{arith}
 use native.Mathlib.Nat.{mod-one}
 use borrow.Author.Tests.{ltb-true, ltb-false}
 use Rattle.octets.specs.Octets.{Small}
-use Rattle.octets.specs.Bits.{Bits, octetsFor, packFrom, pack}
-use Rattle.octets.proofs.BitLaws.{unpack-length, pack-unpack}
-use Rattle.octets.proofs.PackingLaws.{pack-length, unpack-pack, unpack-bits, bits-append, bits-take, bits-drop}
+use Rattle.bits.specs.Bits.{Bits, octetsFor, packFrom, pack}
+use Rattle.bits.proofs.BitLaws.{unpack-length, pack-unpack}
+use Rattle.bits.proofs.PackingLaws.{pack-length, unpack-pack, unpack-bits, bits-append, bits-take, bits-drop}
 use Rattle.address.specs.Address.{bits, bitAt, joinOf}
-use Rattle.octets.proofs.UnpackLaws.{pack-small}
+use Rattle.bits.proofs.UnpackLaws.{pack-small}
 
 -- the first n of a list, then the rest of another that is as long
 splice-length : (n : ℕ) (xs ys : List ℕ) → length xs ≡ length ys → length (take n xs ++ drop n ys) ≡ length ys

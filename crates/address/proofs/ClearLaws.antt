@@ -12,13 +12,13 @@ use native.Mathlib.Numerals.{add-one}
 use native.Mathlib.Nat.{mod-one, zero-mod, zero-div}
 use borrow.Author.Tests.{eqb-true, eqb-false, eq-eqb, ne-eqb}
 use Rattle.octets.specs.Octets.{Small, blank}
-use Rattle.octets.specs.Bits.{bitsOf, unpack}
+use Rattle.bits.specs.Bits.{bitsOf, unpack}
 use Rattle.octets.proofs.OctetLaws.{length-blank}
-use Rattle.octets.proofs.BitLaws.{unpack-zero}
+use Rattle.bits.proofs.BitLaws.{unpack-zero}
 use Rattle.address.specs.Address.{bits, bitAt, joinOf, allZero, clearTo}
 use Rattle.octets.proofs.SmallLaws.{small-blank}
 use Rattle.octets.proofs.BoolLaws.{and-true}
-use Rattle.octets.proofs.UnpackLaws.{unpack-all}
+use Rattle.bits.proofs.UnpackLaws.{unpack-all}
 use Rattle.address.proofs.AddressLaws.{bit-ext, join-length, join-bit-high}
 
 -- nothing but zeros, bit by bit

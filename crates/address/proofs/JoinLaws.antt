@@ -13,10 +13,10 @@ use native.Mathlib.Nat.{mod-eq-of-lt, mod-lt, zero-add}
 use native.Mathlib.Numerals.{add-one}
 use borrow.Author.Tests.{ltb-true, ltb-false}
 use Rattle.octets.specs.Octets.{Small}
-use Rattle.octets.specs.Bits.{bitsOf, unpack, packFrom}
-use Rattle.octets.proofs.BitLaws.{pack-some, pack-full, unpack-octet}
+use Rattle.bits.specs.Bits.{bitsOf, unpack, packFrom}
+use Rattle.bits.proofs.BitLaws.{pack-some, pack-full, unpack-octet}
 use Rattle.address.specs.Address.{joinOf}
-use Rattle.octets.proofs.UnpackLaws.{octet-take, octet-drop, past-octet, beyond-octet}
+use Rattle.bits.proofs.UnpackLaws.{octet-take, octet-drop, past-octet, beyond-octet}
 
 -- the first n bits of an octet, then those of another
 abbrev pub mix : ℕ → ℕ → ℕ → ℕ

@@ -4,7 +4,7 @@ use mathlib.Core.Bool.{Bool, true, false}
 use mathlib.Core.List.{List, [], _∷_, _++_}
 use lib.Dec.{eqb}
 use lib.ListN.{getD, take, drop}
-use Rattle.octets.specs.Bits.{unpack, pack}
+use Rattle.bits.specs.Bits.{unpack, pack}
 
 -- the 128 bits of an address
 unfoldable pub bits : List ℕ → List ℕ

@@ -5,7 +5,7 @@ use mathlib.Core.Bool.{Bool, true, false}
 use mathlib.Core.List.{List, [], _∷_}
 use lib.Dec.{leb}
 use borrow.Author.Tests.{le-leb, lt-leb, leb-false}
-use Rattle.octets.specs.Bits.{pack}
+use Rattle.bits.specs.Bits.{pack}
 use Rattle.address.specs.Address.{bitAt}
 use Rattle.chains.specs.Lists.{pick}
 use Rattle.chains.specs.Graph.{Graph}

@@ -5,7 +5,7 @@ use mathlib.Core.List.{List, [], _∷_, _++_, map}
 use lib.Dec.{eqb}
 use lib.ListN.{length, getD}
 use Rattle.octets.specs.Octets.{blank}
-use Rattle.octets.specs.Bits.{unpack, pack}
+use Rattle.bits.specs.Bits.{unpack, pack}
 use Rattle.address.specs.Address.{bits, bitAt}
 use Rattle.address.specs.Order.{orderOf}
 use Rattle.chains.specs.Lists.{upTo}

@@ -9,11 +9,11 @@ use lib.Dec.{leb, eqb}
 use lib.ListN.{length, getD}
 use borrow.Author.Tests.{leb-true, leb-false, eqb-true}
 use Rattle.octets.specs.Octets.{Small, blank}
-use Rattle.octets.specs.Bits.{Bits, octetsFor, pack, packFrom}
+use Rattle.bits.specs.Bits.{Bits, octetsFor, pack, packFrom}
 use Rattle.octets.proofs.OctetLaws.{length-blank}
-use Rattle.octets.proofs.PackingLaws.{pack-length, unpack-pack, unpack-bits, bits-append}
+use Rattle.bits.proofs.PackingLaws.{pack-length, unpack-pack, unpack-bits, bits-append}
 use Rattle.address.specs.Address.{bits, bitAt, joinOf}
-use Rattle.octets.proofs.UnpackLaws.{pack-small}
+use Rattle.bits.proofs.UnpackLaws.{pack-small}
 use Rattle.address.proofs.AddressLaws.{bit-ext, join-length, join-small, join-bit-high, join-bit-low, join-assoc, join-zero, join-all}
 use Rattle.chains.specs.Lists.{In, pick, upTo}
 use Rattle.chains.specs.Graph.{Graph, Sound}

@@ -4,7 +4,7 @@ use mathlib.Core.Path.{_≡_}
 use mathlib.Core.Bool.{true}
 use mathlib.Core.List.{List, [], _∷_}
 use lib.Dec.{leb}
-use Rattle.octets.specs.Bits.{pack}
+use Rattle.bits.specs.Bits.{pack}
 use Rattle.address.specs.Address.{bitAt}
 use Rattle.chains.specs.Lists.{pick, upTo}
 use Rattle.chains.specs.Graph.{Graph}

@@ -8,7 +8,7 @@ use lib.Dec.{ltb}
 use lib.ListN.{length, take, length-append}
 use lib.Seq.{take-at}
 use borrow.Author.Tests.{ltb-true, ltb-false, lt-ltb, le-ltb, eq-eqb, ne-eqb}
-use Rattle.octets.specs.Octets.{blank, Small}
+use Rattle.octets.specs.Octets.{blank, Small, flat}
 use Rattle.octets.proofs.OctetLaws.{nil-of-length}
 use Rattle.octets.specs.Answers.{answering, refusal}
 use Rattle.octets.specs.declared.Answer.{Answer}
@@ -19,7 +19,7 @@ use Rattle.names.specs.declared.Name.{Name}
 use Rattle.names.proofs.RoundLaws.{standard-formed, standard-again}
 use Rattle.names.proofs.StandardLaws.{standard-in}
 use Rattle.names.proofs.NameLaws.{held-formed, held-malformed}
-use Rattle.plan.specs.Layout.{recordSize, maxRecords, octetsOf}
+use Rattle.plan.specs.Layout.{recordSize, maxRecords}
 use Rattle.plan.specs.Check.{checkOf, checkAnswer, InOrder}
 use Rattle.plan.proofs.OrderLaws.{number-answer}
 use Rattle.collapse.specs.Fold.{foldOf, reviving}
@@ -128,7 +128,7 @@ module _ (t x : List ℕ) (size : ℕ) where
     unfolding collapseAnswer answerFor
     done-answer = rw e
 
-    pub done-out : collapseOut t x size ≡ octetsOf (foldOf x t) ++ blank (size - length (foldOf x t) * recordSize)
+    pub done-out : collapseOut t x size ≡ flat (foldOf x t) ++ blank (size - length (foldOf x t) * recordSize)
     unfolding collapseOut outFor
     done-out = rw e
 

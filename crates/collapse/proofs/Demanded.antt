@@ -9,11 +9,11 @@ use lib.Dec.{ltb, eqb}
 use lib.ListN.{length}
 use lib.Seq.{take-at}
 use borrow.Author.Tests.{ltb-true, ltb-false, eqb-true, eqb-false}
-use Rattle.octets.specs.Octets.{blank}
+use Rattle.octets.specs.Octets.{blank, flat}
 use Rattle.octets.specs.declared.Answer.{Answer}
 use Rattle.names.specs.Scan.{wellFormed}
 use Rattle.chains.specs.Chain.{Spells}
-use Rattle.plan.specs.Layout.{recordSize, maxRecords, octetsOf}
+use Rattle.plan.specs.Layout.{recordSize, maxRecords}
 use Rattle.plan.specs.Check.{InOrder}
 use Rattle.plan.proofs.LayoutLaws.{octets-length}
 use Rattle.plan.specs.Graph.{graphOf}
@@ -67,11 +67,11 @@ after-refusal : (t : List ℕ) (o : Answer × List ℕ) (k : ℕ) → o .0 .numb
 unfolding after
 after-refusal t o k e = rw e
 
-after-done : (t x : List ℕ) (size : ℕ) → numberOf t x size ≡ 0 → after t (collapseOf t x size) ≡ octetsOf (foldOf x t)
+after-done : (t x : List ℕ) (size : ℕ) → numberOf t x size ≡ 0 → after t (collapseOf t x size) ≡ flat (foldOf x t)
 unfolding after collapseOf
 after-done t x size e =
     rw (done-answer t x size e, done-out t x size e)
-    (take-at (octetsOf (foldOf x t)) (blank (size - length (foldOf x t) * recordSize)) (length (foldOf x t) * recordSize) (octets-length (foldOf x t) (fold-whole x t)))
+    (take-at (flat (foldOf x t)) (blank (size - length (foldOf x t) * recordSize)) (length (foldOf x t) * recordSize) (octets-length (foldOf x t) (fold-whole x t)))
 
 module _ (t : List ℕ) (o : InOrder t) (c : Call) where
   abbrev x : List ℕ
@@ -159,7 +159,7 @@ module _ (t : List ℕ) (o : InOrder t) (c : Call) where
           let s : after t (gives t c) ≡ t = after-refusal t (gives t c) k (given ∙ e) in
           record { ordered = subst InOrder (sym s) o; spelt = λ m a. subst (λ (u : List ℕ). Spells (graphOf u) m a ↔ Spells (graphOf t) m a) (sym s) (λ p. p, λ p. p) }
       go zero e =
-          let s : after t (gives t c) ≡ octetsOf (ruled t c) = after-done t x (c .size) e in
+          let s : after t (gives t c) ≡ flat (ruled t c) = after-done t x (c .size) e in
           let d = clean e in
           record {
             ordered = subst InOrder (sym s) (fold-ordered x t o (d .few));

@@ -3,10 +3,10 @@ use Prim.Native.Nat.{ℕ}
 use mathlib.Core.Path.{_≡_, refl}
 use mathlib.Core.List.{List, [], _∷_, _++_, map}
 use lib.ListN.{take, drop}
-use Rattle.octets.specs.Octets.{blank}
+use Rattle.octets.specs.Octets.{blank, flat}
 use Rattle.octets.specs.Answers.{answering, refusal}
 use Rattle.octets.specs.declared.Answer.{Answer}
-use Rattle.plan.specs.Layout.{slotSize, a6, slotOf, recordOf, octetsOf}
+use Rattle.plan.specs.Layout.{slotSize, a6, slotOf, recordOf}
 use Rattle.collapse.specs.Collapse.{collapseOf}
 
 -- names: h.a, p.a, q.a, x.a
@@ -53,23 +53,23 @@ finished owner address = recordOf a6 0 address (slotOf owner) (blank slotSize)
 
 -- h.a → A6 64 ::7 p.a, and p.a → A6 0 2001:db8:0:5::
 plain : List ℕ
-unfolding octetsOf toward finished ha pa host subnet
-plain = octetsOf (toward ha 64 (host 7) pa ∷ finished pa (subnet 5 0) ∷ [])
+unfolding flat toward finished ha pa host subnet
+plain = flat (toward ha 64 (host 7) pa ∷ finished pa (subnet 5 0) ∷ [])
 
 -- h.a → A6 48 :: p.a; p.a → A6 64 ::1 q.a and A6 0 2001:db8::; q.a → A6 0 2001:db8:1::
 ignored : List ℕ
-unfolding octetsOf toward finished ha pa qa host site
-ignored = octetsOf (toward ha 48 (host 0) pa ∷ toward pa 64 (host 1) qa ∷ finished pa (site 0) ∷ finished qa (site 1) ∷ [])
+unfolding flat toward finished ha pa qa host site
+ignored = flat (toward ha 48 (host 0) pa ∷ toward pa 64 (host 1) qa ∷ finished pa (site 0) ∷ finished qa (site 1) ∷ [])
 
 -- x.a → A6 48 ::1 x.a, and x.a → A6 0 2001:db8::
 loop : List ℕ
-unfolding octetsOf toward finished xa host site
-loop = octetsOf (toward xa 48 (host 1) xa ∷ finished xa (site 0) ∷ [])
+unfolding flat toward finished xa host site
+loop = flat (toward xa 48 (host 1) xa ∷ finished xa (site 0) ∷ [])
 
 -- a prefix length inside an octet: the sixteen bits → A6 60 ::7 p.a, and p.a → A6 0 2001:db8:0:55::
 uneven : List ℕ
-unfolding octetsOf toward finished sixteen pa host subnet
-uneven = octetsOf (toward sixteen 60 (host 7) pa ∷ finished pa (subnet 0x55 0) ∷ [])
+unfolding flat toward finished sixteen pa host subnet
+uneven = flat (toward sixteen 60 (host 7) pa ∷ finished pa (subnet 0x55 0) ∷ [])
 
 pub record Case : Type 0 where
   pub table : List ℕ
@@ -90,10 +90,10 @@ unfolding blank
 refuses t x size k = record { table = t; name = x; size = size; answer = refusal k; output = blank size }
 
 pub cases : List Case
-unfolding plain ignored loop uneven ha pa qa xa sixteen eights host subnet site toward finished octetsOf blank refuses
+unfolding plain ignored loop uneven ha pa qa xa sixteen eights host subnet site toward finished flat blank refuses
 cases =
     -- the marked two
-    record { table = plain; name = ha; size = 1596; answer = answering 2 0; output = octetsOf (finished ha (subnet 5 7) ∷ finished pa (subnet 5 0) ∷ []) ++ blank 532 }
+    record { table = plain; name = ha; size = 1596; answer = answering 2 0; output = flat (finished ha (subnet 5 7) ∷ finished pa (subnet 5 0) ∷ []) ++ blank 532 }
     ∷ refuses ignored pa 2128 9
     -- 7 by the room, 5, 4 before 5, and 2 before 4
     ∷ refuses plain ha 532 7
@@ -108,10 +108,10 @@ cases =
     ∷ record { table = ignored; name = ha; size = 2128; answer = answering 4 0; output = finished ha (site 0) ++ drop 532 ignored }
     ∷ record { table = take 532 plain; name = ha; size = 532; answer = answering 0 0; output = blank 532 }
     -- q is from the table before, the record itself among them; a referrer of the same length does not revive
-    ∷ record { table = loop; name = xa; size = 1596; answer = answering 3 0; output = octetsOf (toward xa 48 (host 1) xa ∷ finished xa (0x20 ∷ 0x01 ∷ 0x0d ∷ 0xb8 ∷ blank 11 ++ 1 ∷ []) ∷ finished xa (site 0) ∷ []) }
+    ∷ record { table = loop; name = xa; size = 1596; answer = answering 3 0; output = flat (toward xa 48 (host 1) xa ∷ finished xa (0x20 ∷ 0x01 ∷ 0x0d ∷ 0xb8 ∷ blank 11 ++ 1 ∷ []) ∷ finished xa (site 0) ∷ []) }
     ∷ refuses loop xa 1064 7
     -- a name in another spelling, and bits that part inside an octet
-    ∷ record { table = uneven; name = eights; size = 1064; answer = answering 2 0; output = octetsOf (finished sixteen (subnet 0x50 7) ∷ finished pa (subnet 0x55 0) ∷ []) }
+    ∷ record { table = uneven; name = eights; size = 1064; answer = answering 2 0; output = flat (finished sixteen (subnet 0x50 7) ∷ finished pa (subnet 0x55 0) ∷ []) }
     ∷ []
 
 pub examples : map given cases ≡ map expected cases

@@ -8,6 +8,7 @@ use native.Mathlib.Omega.{arith}
 use lib.Dec.{leb}
 use lib.ListN.{length, getD}
 use borrow.Author.Tests.{leb-true, leb-false}
+use Rattle.octets.specs.Octets.{flat}
 use Rattle.names.specs.Standard.{Same, sameName}
 use Rattle.names.proofs.StandardLaws.{same-name-same, same-same-name}
 use Rattle.chains.specs.Graph.{Graph}
@@ -15,7 +16,7 @@ use Rattle.chains.specs.Chain.{Follows, Spells}
 use Rattle.chains.specs.Folding as folding
 use Rattle.chains.proofs.ListLaws.{true-both, both-true}
 use Rattle.chains.proofs.FoldingLaws.{fold-keeps}
-use Rattle.plan.specs.Layout.{prefixOf, addressOf, nameIn, ownerOf, targetOf, isA6, countOf, recordAt, prefixAt, ownerAt, targetAt, octetsOf}
+use Rattle.plan.specs.Layout.{prefixOf, addressOf, nameIn, ownerOf, targetOf, isA6, countOf, recordAt, prefixAt, ownerAt, targetAt}
 use Rattle.plan.proofs.LayoutLaws.{record-length, count-octets, record-octets}
 use Rattle.plan.specs.Check.{InOrder}
 use Rattle.plan.proofs.RecordLaws.{address-length}
@@ -56,7 +57,7 @@ module _ (x t : List ℕ) where
 
   -- the table after
   abbrev u : List ℕ
-  u = octetsOf (foldOf x t)
+  u = flat (foldOf x t)
 
   abbrev h : Graph (List ℕ)
   h = graphOf u
@@ -127,7 +128,7 @@ module _ (x t : List ℕ) where
           }))
 
   -- every name has after the rule the addresses that it had before
-  pub fold-spells : InOrder t → (Reviving x t → ⊥) → (n a : List ℕ) → Spells (graphOf t) n a ↔ Spells (graphOf (octetsOf (foldOf x t))) n a
+  pub fold-spells : InOrder t → (Reviving x t → ⊥) → (n a : List ℕ) → Spells (graphOf t) n a ↔ Spells (graphOf (flat (foldOf x t))) n a
   fold-spells o none = fold-keeps g x h (λ i l. address-length (recordAt t i) (record-length t i l)) fold (quiet none six)
     where
       -- only A6 records have a prefix length over 0

@@ -9,10 +9,11 @@ use lib.Dec.{ltb}
 use lib.ListN.{length, getD, length-append, List·getD-append}
 use lib.Seq.{getD-append-add}
 use borrow.Author.Tests.{ltb-true, ltb-false}
+use Rattle.octets.specs.Octets.{flat}
 use Rattle.names.specs.Standard.{sameName}
 use Rattle.chains.specs.Lists.{In, upTo}
 use Rattle.chains.proofs.ListLaws.{in-upTo, in-at}
-use Rattle.plan.specs.Layout.{maxRecords, dname, typeOf, countOf, recordAt, ownerOf, octetsOf}
+use Rattle.plan.specs.Layout.{maxRecords, dname, typeOf, countOf, recordAt, ownerOf}
 use Rattle.plan.specs.Check.{InOrder}
 use Rattle.plan.specs.Good.{Good}
 use Rattle.plan.proofs.LayoutLaws.{record-length}
@@ -83,7 +84,7 @@ module _ (x t : List ℕ) where
           (r .0, n, r .1, omega arith, ea ∙ r .2, eb ∙ ap₂ (λ (l : List (List ℕ)) (i : ℕ). getD l i []) m y)
 
 -- the rule's records are a table in order, if they are not too many
-pub fold-ordered : (x t : List ℕ) → InOrder t → length (foldOf x t) ≤ maxRecords → InOrder (octetsOf (foldOf x t))
+pub fold-ordered : (x t : List ℕ) → InOrder t → length (foldOf x t) ≤ maxRecords → InOrder (flat (foldOf x t))
 unfolding foldOf
 fold-ordered x t o few = order-made rs (fold-whole x t) few good apart
   where

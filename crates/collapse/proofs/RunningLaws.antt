@@ -11,12 +11,12 @@ use lib.ListN.{length, take, drop, length-append, length-drop, drop-of-length-le
 use lib.Seq.{paste, take-at, drop-drop, drop-append-add, take-all, length-take-le}
 use borrow.Author.Tests.{lt-ltb, le-ltb, le-leb, lt-leb, ltb-true, ltb-false, eqb-true, eqb-false}
 use Rattle.plan.proofs.FaultLaws.{a6-not}
-use Rattle.octets.specs.Octets.{blank}
+use Rattle.octets.specs.Octets.{blank, flat}
 use Rattle.names.specs.Standard.{sameName, standardOf}
 use Rattle.chains.specs.Lists.{pick, upTo}
 use Rattle.chains.proofs.ListLaws.{pick-true, pick-false, upTo-same}
 use Rattle.plan.specs.First.{some}
-use Rattle.plan.specs.Layout.{recordSize, a6, typeOf, prefixOf, isA6, ownerOf, targetOf, countOf, recordAt, prefixAt, octetsOf}
+use Rattle.plan.specs.Layout.{recordSize, a6, typeOf, prefixOf, isA6, ownerOf, targetOf, countOf, recordAt, prefixAt}
 use Rattle.plan.specs.Check.{InOrder}
 use Rattle.plan.proofs.LayoutLaws.{Whole, record-length, octets-length}
 use Rattle.plan.proofs.OrderLaws.{order-good}
@@ -279,29 +279,29 @@ stored-one-in front rest n r a b c =
     stored-in (front ++ rest) n r (omega arith) ∙ rw (take-at front rest (n * recordSize) a, take-all recordSize r (omega arith), d)
 
 stored-from : (rs : List (List ℕ)) → Whole rs → (front rest : List ℕ) (n : ℕ) → length front ≡ n * recordSize → length rs * recordSize ≤ length rest
-    → stored (front ++ rest) n rs ≡ front ++ (octetsOf rs ++ drop (length rs * recordSize) rest)
-unfolding stored octetsOf
+    → stored (front ++ rest) n rs ≡ front ++ (flat rs ++ drop (length rs * recordSize) rest)
+unfolding stored flat
 stored-from [] w front rest n a b = refl
 stored-from (r ∷ rs) w front rest n a b =
     let k = w 0 (omega arith) in
     let e : recordSize + length rs * recordSize ≡ suc (length rs) * recordSize = omega arith in
     ap (λ (o : List ℕ). stored o (suc n) rs) (stored-one-in front rest n r a k (omega arith))
     ∙ stored-from rs (λ i h. w (suc i) (omega arith)) (front ++ r) (drop recordSize rest) (suc n) (omega (arith, length-append front r)) (omega (arith, length-drop recordSize rest))
-    ∙ append-assoc front r (octetsOf rs ++ drop (length rs * recordSize) (drop recordSize rest))
+    ∙ append-assoc front r (flat rs ++ drop (length rs * recordSize) (drop recordSize rest))
     ∙ ap (λ (o : List ℕ). front ++ o)
-    (sym (append-assoc r (octetsOf rs) (drop (length rs * recordSize) (drop recordSize rest)))
-    ∙ ap (λ (o : List ℕ). (r ++ octetsOf rs) ++ o) (drop-drop (length rs * recordSize) recordSize rest ∙ ap (λ (i : ℕ). drop i rest) e))
+    (sym (append-assoc r (flat rs) (drop (length rs * recordSize) (drop recordSize rest)))
+    ∙ ap (λ (o : List ℕ). (r ++ flat rs) ++ o) (drop-drop (length rs * recordSize) recordSize rest ∙ ap (λ (i : ℕ). drop i rest) e))
 
-pub stored-all : (out : List ℕ) (rs : List (List ℕ)) → Whole rs → length rs ≤ length out / recordSize → stored out 0 rs ≡ octetsOf rs ++ drop (length rs * recordSize) out
+pub stored-all : (out : List ℕ) (rs : List (List ℕ)) → Whole rs → length rs ≤ length out / recordSize → stored out 0 rs ≡ flat rs ++ drop (length rs * recordSize) out
 stored-all out rs w h = stored-from rs w [] out 0 (omega arith) (omega arith)
 
 -- all of them, and zeros after them
 pub stored-cleared : (out new part : List ℕ) (rs : List (List ℕ)) (n : ℕ) → Whole rs → n ≡ length rs → length rs ≤ length out / recordSize → new ≡ stored out 0 rs → length new ≡ length out
     → part ≡ blank (length (take (length new - n * recordSize) (drop (n * recordSize) new)))
-    → take (n * recordSize) new ++ (part ++ drop (length new - n * recordSize) (drop (n * recordSize) new)) ≡ octetsOf rs ++ blank (length out - length rs * recordSize)
+    → take (n * recordSize) new ++ (part ++ drop (length new - n * recordSize) (drop (n * recordSize) new)) ≡ flat rs ++ blank (length out - length rs * recordSize)
 stored-cleared out new part rs n w e h f l p =
-    let k : take (length rs * recordSize) new ≡ octetsOf rs =
-    ap (take (length rs * recordSize)) (f ∙ stored-all out rs w h) ∙ take-at (octetsOf rs) (drop (length rs * recordSize) out) (length rs * recordSize) (octets-length rs w) in
+    let k : take (length rs * recordSize) new ≡ flat rs =
+    ap (take (length rs * recordSize)) (f ∙ stored-all out rs w h) ∙ take-at (flat rs) (drop (length rs * recordSize) out) (length rs * recordSize) (octets-length rs w) in
     let g : drop (length new - n * recordSize) (drop (n * recordSize) new) ≡ [] = drop-of-length-le (drop (n * recordSize) new) {i = length new - n * recordSize} (omega (arith, length-drop (n * recordSize) new)) in
     let d : length (take (length new - n * recordSize) (drop (n * recordSize) new)) ≡ length out - length rs * recordSize =
     length-take-le (length new - n * recordSize) (drop (n * recordSize) new) (omega (arith, length-drop (n * recordSize) new)) ∙ omega arith in

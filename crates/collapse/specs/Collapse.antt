@@ -4,11 +4,11 @@ use mathlib.Core.Bool.{Bool, not, _||_}
 use mathlib.Core.List.{List, _++_}
 use lib.Dec.{ltb, eqb}
 use lib.ListN.{length}
-use Rattle.octets.specs.Octets.{blank}
+use Rattle.octets.specs.Octets.{blank, flat}
 use Rattle.octets.specs.Answers.{earns, answering, refusal}
 use Rattle.octets.specs.declared.Answer.{Answer}
 use Rattle.names.specs.Scan.{wellFormed}
-use Rattle.plan.specs.Layout.{recordSize, maxRecords, octetsOf}
+use Rattle.plan.specs.Layout.{recordSize, maxRecords}
 use Rattle.plan.specs.Check.{checkOf}
 use Rattle.collapse.specs.Fold.{foldOf, reviving}
 
@@ -37,8 +37,8 @@ answerFor k rs = elim k [ zero ↦ answering (length rs) 0 | suc j ↦ refusal (
 
 -- by the number: the records with zeros after them, or zeros alone
 unfoldable pub outFor : ℕ → List (List ℕ) → ℕ → List ℕ
-unfolding octetsOf blank
-outFor k rs size = elim k [ zero ↦ octetsOf rs ++ blank (size - length rs * recordSize) | suc j ↦ blank size ]
+unfolding flat blank
+outFor k rs size = elim k [ zero ↦ flat rs ++ blank (size - length rs * recordSize) | suc j ↦ blank size ]
 
 unfoldable pub collapseAnswer : List ℕ → List ℕ → ℕ → Answer
 unfolding numberOf answerFor foldOf

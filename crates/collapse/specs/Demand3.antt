@@ -5,13 +5,13 @@ use mathlib.Core.Logic.{_⊎_, _↔_}
 use mathlib.Core.Bool.{true, false}
 use mathlib.Core.List.{List, [], _∷_, _++_}
 use lib.ListN.{length, take}
-use Rattle.octets.specs.Octets.{blank}
+use Rattle.octets.specs.Octets.{blank, flat}
 use Rattle.octets.specs.Answers.{answering}
 use Rattle.octets.specs.declared.Answer.{Answer}
 use Rattle.names.specs.Scan.{wellFormed}
 use Rattle.chains.specs.Chain.{Spells}
 use Rattle.plan.specs.Graph.{graphOf}
-use Rattle.plan.specs.Layout.{recordSize, maxRecords, countOf, octetsOf}
+use Rattle.plan.specs.Layout.{recordSize, maxRecords, countOf}
 use Rattle.plan.specs.Check.{InOrder}
 use Rattle.collapse.specs.Fold.{foldOf}
 use Rattle.collapse.specs.Rule.{Ruled, Reviving}
@@ -60,8 +60,8 @@ pub record Answered (t : List ℕ) (c : Call) : Type 0 where
       (gives t c .0 .number ≡ 7) ↔ Passes (c .size) (ruled t c)
   -- else accepted, with exactly the rule's records, which are then the table in hand
   pub accepted : wellFormed (c .name) ≡ true → c .size % recordSize ≡ 0 → (Reviving (c .name) t → ⊥) → (Passes (c .size) (ruled t c) → ⊥) →
-      (gives t c ≡ (answering (length (ruled t c)) 0, octetsOf (ruled t c) ++ blank (c .size - length (ruled t c) * recordSize)))
-      × (after t (gives t c) ≡ octetsOf (ruled t c))
+      (gives t c ≡ (answering (length (ruled t c)) 0, flat (ruled t c) ++ blank (c .size - length (ruled t c) * recordSize)))
+      × (after t (gives t c) ≡ flat (ruled t c))
 
 -- what is claimed of a list of calls from the table t on
 pub record Holds (t : List ℕ) (calls : List Call) : Type 0 where

@@ -56,10 +56,10 @@ use Rattle.plan.proofs.PartLaws.{part-refused, part-past}
 use Rattle.plan.proofs.check.Reads as check
 use Rattle.plan.proofs.owner.Reads as owner
 use Rattle.plan.proofs.owner_part.Reads as owner-part
-use Rattle.forward.specs.Answers.{answerOf, outputOf}
+use Rattle.search.specs.Answers.{answerOf, outputOf}
 use Rattle.forward.specs.Lookup.{lookupNumber, lookupAnswer, lookupOut}
 use Rattle.forward.proofs.lookup.Reads as lookup
-use Rattle.reverse.specs.Rewrites as walks
+use Rattle.reverse.specs.Walk as walks
 use Rattle.reverse.specs.Answers as replies
 use Rattle.reverse.specs.Answers.{endOf, reverseAnswer, reverseOut}
 use Rattle.reverse.proofs.lookup.Reads as reverse

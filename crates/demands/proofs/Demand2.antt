@@ -15,7 +15,7 @@ use Rattle.names.specs.Scan.{wellFormed}
 use Rattle.plan.specs.Layout.{addressSize}
 use Rattle.plan.specs.Check.{InOrder}
 use Rattle.plan.specs.Graph.{graphOf}
-use Rattle.forward.specs.Answers.{answerOf}
+use Rattle.search.specs.Answers.{answerOf}
 use Rattle.forward.specs.Lookup.{lookupNumber, lookupAnswer}
 use Rattle.forward.specs.Demand.{Demanded}
 use Rattle.forward.proofs.Demand.{lookup-demand}

@@ -3,7 +3,7 @@ use Prim.Native.Nat.{ℕ, _*_, _/_, _%_}
 use mathlib.Core.Path.{_≡_, refl}
 use mathlib.Core.List.{List, [], _∷_, _++_, map}
 use lib.ListN.{replicate}
-use Rattle.octets.specs.Octets.{blank}
+use Rattle.octets.specs.Octets.{blank, flat}
 use Rattle.octets.specs.declared.Answer.{Answer}
 use Rattle.address.specs.Address.{bitAt}
 use Rattle.address.specs.Order.{orderOf}
@@ -14,9 +14,8 @@ use Rattle.chains.specs.Addresses.{insert, gather, addressesOf}
 use Rattle.a6.specs.Read.{readOf}
 use Rattle.a6.specs.Write.{writeAnswer, writeOut}
 use Rattle.a6.specs.declared.Value.{Value}
-use Rattle.plan.specs.Layout.{recordSize, addressSize, slotSize, a6, slotOf, recordOf, octetsOf}
+use Rattle.plan.specs.Layout.{recordSize, addressSize, slotSize, a6, slotOf, recordOf}
 use Rattle.plan.specs.Graph.{ownsA6}
-use Rattle.forward.specs.Answers.{flat}
 use Rattle.forward.specs.Lookup.{lookupAnswer, lookupOut}
 use Rattle.collapse.specs.Collapse.{collapseAnswer, collapseOut}
 use Rattle.a6plan.specs.Exports.{valueSize, valueOctets}
@@ -95,24 +94,24 @@ finished owner address = recordOf a6 0 address (slotOf owner) (blank slotSize)
 
 -- h.a → A6 64 ::7 p.a, and p.a → A6 0 2001:db8:0:5::
 plain : List ℕ
-unfolding octetsOf toward finished ha pa ip
-plain = octetsOf (toward ha 64 (ip 0 0 0 0 0 0 0 7) pa ∷ finished pa (ip 0x2001 0xdb8 0 5 0 0 0 0) ∷ [])
+unfolding flat toward finished ha pa ip
+plain = flat (toward ha 64 (ip 0 0 0 0 0 0 0 7) pa ∷ finished pa (ip 0x2001 0xdb8 0 5 0 0 0 0) ∷ [])
 
 -- h.a → A6 0 2001:db8:0:5::7, and p.a as it was
 folded : List ℕ
-unfolding octetsOf finished ha pa ip
-folded = octetsOf (finished ha (ip 0x2001 0xdb8 0 5 0 0 0 7) ∷ finished pa (ip 0x2001 0xdb8 0 5 0 0 0 0) ∷ [])
+unfolding flat finished ha pa ip
+folded = flat (finished ha (ip 0x2001 0xdb8 0 5 0 0 0 7) ∷ finished pa (ip 0x2001 0xdb8 0 5 0 0 0 0) ∷ [])
 
 -- x.a → A6 48 ::1 x.a, and x.a → A6 0 2001:db8::
 loop : List ℕ
-unfolding octetsOf toward finished xa ip
-loop = octetsOf (toward xa 48 (ip 0 0 0 0 0 0 0 1) xa ∷ finished xa (ip 0x2001 0xdb8 0 0 0 0 0 0) ∷ [])
+unfolding flat toward finished xa ip
+loop = flat (toward xa 48 (ip 0 0 0 0 0 0 0 1) xa ∷ finished xa (ip 0x2001 0xdb8 0 0 0 0 0 0) ∷ [])
 
 -- h.a → A6 48 :: p.a; p.a → A6 64 ::1 q.a and p.a → A6 0 2001:db8::; q.a → A6 0 2001:db8:1::
 ignored : List ℕ
-unfolding octetsOf toward finished ha pa qa ip
+unfolding flat toward finished ha pa qa ip
 ignored =
-    octetsOf
+    flat
     (toward ha 48 (ip 0 0 0 0 0 0 0 0) pa
     ∷ toward pa 64 (ip 0 0 0 0 0 0 0 1) qa
     ∷ finished pa (ip 0x2001 0xdb8 0 0 0 0 0 0)

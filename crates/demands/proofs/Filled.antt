@@ -5,10 +5,12 @@ use mathlib.Core.Logic.{inl, inr}
 use mathlib.Core.Bool.{not, _||_}
 use mathlib.Core.List.{List, [], _∷_, _++_}
 use lib.Dec.{ltb, eqb}
-use lib.ListN.{length, length-append}
+use lib.ListN.{length, length-append, getD}
 use native.Mathlib.Omega.{arith}
 use borrow.Author.Tests.{eqb-true, ltb-false, not-false}
-use Rattle.octets.specs.Octets.{blank, Small}
+use Rattle.chains.proofs.ListLaws.{in-at}
+use Rattle.octets.proofs.FlatLaws.{each-at, flat-length}
+use Rattle.octets.specs.Octets.{blank, Small, flat}
 use Rattle.octets.proofs.OctetLaws.{length-blank}
 use Rattle.octets.proofs.SmallLaws.{earns-zero, earns-own}
 use Rattle.names.specs.Scan.{wellFormed}
@@ -21,18 +23,19 @@ use Rattle.chains.specs.Listing.{workOf}
 use Rattle.chains.specs.Addresses.{addressesOf}
 use Rattle.chains.proofs.AddressesLaws.{spells-listed}
 use Rattle.chains.proofs.SpellingLaws.{spells-address}
-use Rattle.plan.specs.Layout.{recordSize, maxRecords, addressSize, nameRoom, octetsOf}
+use Rattle.plan.specs.Layout.{recordSize, maxRecords, addressSize, nameRoom}
 use Rattle.plan.specs.Check.{checkOf, InOrder}
 use Rattle.plan.specs.Graph.{graphOf}
 use Rattle.plan.proofs.LayoutLaws.{octets-length}
 use Rattle.numbering.proofs.OrderLaws.{sound-graph}
-use Rattle.forward.specs.Answers.{flat, numberOf, outputOf}
+use Rattle.search.specs.Answers.{numberOf, outputOf}
 use Rattle.forward.specs.Lookup.{lookupNumber, lookupOut}
 use Rattle.forward.proofs.LookupLaws.{lookup-refused}
-use Rattle.reverse.specs.Rewrites.{Rule, startOf, longRun, tooLarge, End, refused, ended}
+use Rattle.rewriting.specs.Rewrite.{longRun, tooLarge}
+use Rattle.reverse.specs.Walk.{Rule, startOf, End, refused, ended}
 use Rattle.reverse.specs.Relation.{Path, here, then}
 use Rattle.reverse.specs.Answers.{rulesOf, earlyNumber, endOf, outFor, reverseOut}
-use Rattle.reverse.proofs.LargeLaws.{or-false}
+use Rattle.rewriting.proofs.LargeLaws.{or-false}
 use Rattle.reverse.proofs.StartLaws.{start-standing}
 use Rattle.reverse.proofs.TableLaws.{rules-one}
 use Rattle.reverse.proofs.ReplyLaws.{late}
@@ -62,11 +65,6 @@ standard-filled name room s = go (standardNumber name room) refl
         ap length (names.done-out name room e) ∙ filled (standardOf name) (length (standardOf name)) room refl (omega arith)
 
 -- ---- lookup
-flat-length : (l : List (List ℕ)) → ((a : List ℕ) → In a l → length a ≡ 16) → length (flat l) ≡ length l * 16
-unfolding flat
-flat-length [] h = refl
-flat-length (a ∷ l) h = omega (arith, length-append a (flat l), h a (inl refl), flat-length l (λ b m. h b (inr m)))
-
 pub lookup-filled : (t name : List ℕ) (limit size : ℕ) → Small t → length (lookupOut t name limit size) ≡ size
 unfolding lookupNumber lookupOut numberOf outputOf
 lookup-filled t name limit size s = go (lookupNumber t name limit size) refl
@@ -82,7 +80,7 @@ lookup-filled t name limit size s = go (lookupNumber t name limit size) refl
         let z = earns-zero (not (eqb (size % 16) 0)) 4 _ (w .1) in
         let m = earns-zero (ltb limit (workOf (graphOf t) name)) 5 _ (z .1) in
         let r = ltb-false (size / 16) (length found) (earns-zero (ltb (size / 16) (length found)) 6 _ (m .1) .0) in
-        let n = flat-length found (λ a i. spells-address (graphOf t) name a (spells-listed (graphOf t) name (sound-graph t (o .0) s) a .0 i) .0) in
+        let n = flat-length 16 found (each-at 16 found (λ i h. spells-address (graphOf t) name (getD found i []) (spells-listed (graphOf t) name (sound-graph t (o .0) s) (getD found i []) .0 (in-at found i h)) .0)) in
         let out : lookupOut t name limit size ≡ flat found ++ blank (size - length found * 16) = rw e in
         ap length out ∙ filled (flat found) (length found * 16) size n (omega arith)
 
@@ -128,4 +126,4 @@ collapse-filled t x size = go (collapse.numberOf t x size) refl
         let v = earns-zero (reviving x t) 8 _ (z .1) in
         let p = or-false _ _ (earns-zero (ltb (size / recordSize) (length (foldOf x t)) || ltb maxRecords (length (foldOf x t))) 6 _ (v .1) .0) in
         let r = ltb-false (size / recordSize) (length (foldOf x t)) (p .0) in
-        ap length (folded.done-out t x size e) ∙ filled (octetsOf (foldOf x t)) (length (foldOf x t) * recordSize) size (octets-length (foldOf x t) (fold-whole x t)) (omega arith)
+        ap length (folded.done-out t x size e) ∙ filled (flat (foldOf x t)) (length (foldOf x t) * recordSize) size (octets-length (foldOf x t) (fold-whole x t)) (omega arith)

@@ -14,7 +14,7 @@ use Rattle.chains.proofs.AddressesLaws.{spells-listed, addresses-ascending}
 use Rattle.plan.specs.Check.{InOrder}
 use Rattle.plan.specs.Graph.{graphOf}
 use Rattle.numbering.proofs.OrderLaws.{sound-graph}
-use Rattle.forward.specs.Answers.{numberOf, answerOf, outputOf}
+use Rattle.search.specs.Answers.{numberOf, answerOf, outputOf}
 use Rattle.forward.specs.Lookup.{lookupNumber, lookupAnswer, lookupOut}
 use Rattle.forward.specs.Demand.{Demanded}
 use Rattle.forward.proofs.LookupLaws.{lookup-on}

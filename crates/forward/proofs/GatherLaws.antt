@@ -15,9 +15,9 @@ use Rattle.plan.proofs.LayoutLaws.{record-small}
 use Rattle.plan.proofs.RecordLaws.{address-small}
 use Rattle.numbering.specs.Numbers.{filled}
 use Rattle.numbering.proofs.NamesLaws.{filled-more, filled-after}
-use Rattle.forward.specs.Halves.{addressOf}
+use Rattle.rows.specs.Halves.{addressOf}
 use Rattle.forward.specs.Gather.{noOwner, searchOwner, Halved}
-use Rattle.forward.proofs.HalvesLaws.{halves}
+use Rattle.rows.proofs.HalvesLaws.{halves}
 
 -- one more owner
 pub owners-more : (t l : List ℕ) (i : ℕ) → set (filled (searchOwner t l) i l) i (pick (eqb (typeAt t i) a6) (getD (filled (searchOwner t l) i l) i 0) noOwner) ≡ filled (searchOwner t l) (i + 1) l

@@ -1,14 +1,3 @@
-pub mod NodeLaws
-pub mod LinkLaws
-pub mod BuildLaws
-pub mod SearchLaws
-pub mod GoingLaws
-pub mod StepLaws
-pub mod HalvesLaws
-pub mod RowsLaws
-pub mod KeepingLaws
-pub mod AnswerLaws
-pub mod Examples
 pub mod GatherLaws
 pub mod LookupLaws
 pub mod Demand

@@ -35,10 +35,10 @@ use Rattle.numbering.proofs.NamesLaws.{own-listed, target-listed, number-standa
 use Rattle.numbering.proofs.OrderLaws.{names-fit}
 use Rattle.numbering.proofs.GraphLaws.{lookup-renamed}
 use Rattle.forward.specs.Gather.{noOwner, Halved}
-use Rattle.forward.specs.Search.{Records, records}
-use Rattle.forward.specs.Search as search′
-use Rattle.forward.specs.Links.{maxNames, Numbered}
-use Rattle.forward.specs.Answers.{numberOf, answerOf, outputOf}
+use Rattle.search.specs.Search.{Records, records}
+use Rattle.search.specs.Search as search′
+use Rattle.search.specs.Links.{maxNames, Numbered}
+use Rattle.search.specs.Answers.{numberOf, answerOf, outputOf}
 use Rattle.forward.specs.Lookup.{lookupNumber, lookupAnswer, lookupOut}
 
 -- the answer looks at the work and the addresses alone

@@ -4,13 +4,12 @@ use mathlib.Core.Path.{_≡_}
 use mathlib.Core.Logic.{_↔_}
 use mathlib.Core.List.{List, _++_}
 use lib.ListN.{length}
-use Rattle.octets.specs.Octets.{blank}
+use Rattle.octets.specs.Octets.{blank, flat}
 use Rattle.octets.specs.Answers.{answering}
 use Rattle.chains.specs.Lists.{In, Distinct}
 use Rattle.chains.specs.Chain.{Chain, Spells}
 use Rattle.chains.specs.Addresses.{Ascending}
 use Rattle.plan.specs.Graph.{graphOf}
-use Rattle.forward.specs.Answers.{flat}
 use Rattle.forward.specs.Lookup.{lookupNumber, lookupAnswer, lookupOut}
 
 -- The addresses are those that some complete finite chain of the name spells, loops included, in ascending order and once each. The chains are

@@ -5,7 +5,7 @@ use mathlib.Core.List.{List}
 use lib.ListN.{getD}
 use Rattle.chains.specs.Lists.{pick}
 use Rattle.plan.specs.Layout.{isA6, recordAt, addressAt}
-use Rattle.forward.specs.Halves.{addressOf}
+use Rattle.rows.specs.Halves.{addressOf}
 
 -- a number that no name has, for a record that no name owns in the search
 abbrev pub noOwner : ℕ

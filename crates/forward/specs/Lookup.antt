@@ -8,7 +8,7 @@ use Rattle.octets.specs.declared.Answer.{Answer}
 use Rattle.names.specs.Scan.{wellFormed}
 use Rattle.plan.specs.Check.{checkOf}
 use Rattle.plan.specs.Graph.{graphOf}
-use Rattle.forward.specs.Answers.{numberOf, answerOf, outputOf}
+use Rattle.search.specs.Answers.{numberOf, answerOf, outputOf}
 
 -- the number for a table, a name, a limit and an output of `size` octets: what the table earns; a malformed name; an output that is no
 -- whole number of addresses; then 6 and 7 by the work and the addresses of the name, whose room is the output's

@@ -7,7 +7,7 @@ ghost use Rattle.octets.specs.Octets.{blank};
 ghost use Rattle.names.specs.Standard.{inStandardForm};
 ghost use Rattle.plan.specs.Check.{InOrder};
 ghost use Rattle.plan.specs.Graph.{graphOf};
-ghost use Rattle.forward.specs.Answers.{numberOf, answerOf, outputOf};
+ghost use Rattle.search.specs.Answers.{numberOf, answerOf, outputOf};
 ghost use Rattle.forward.specs.Lookup.{lookupAnswer, lookupOut};
 
 // The addresses of a name in ascending order without repeats, sixteen octets each, then zeros; their count and the work.
@@ -42,17 +42,17 @@ fn look(table: &[u8], name: &[u8], limit: u32, out: &mut [u8]) -> octets::Answer
     ensures { λ r. ⌜ r ≡ answerOf (graphOf (now (table .entry))) (now (name .entry)) (numberOf (graphOf (now (table .entry))) (now (name .entry)) limit (length (now (out .entry)) / 16)) ⌝ }
     ensures { λ _. ⌜ now (out .exit) ≡ outputOf (graphOf (now (table .entry))) (now (name .entry)) (numberOf (graphOf (now (table .entry))) (now (name .entry)) limit (length (now (out .entry)) / 16)) (length (now (out .entry))) ⌝ }
 {
-    let mut owners = [0u16; inside::RECORDS];
-    let mut targets = [0u16; inside::RECORDS];
-    let mut lengths = [0u8; inside::RECORDS];
-    let mut highs = [0u64; inside::RECORDS];
-    let mut lows = [0u64; inside::RECORDS];
+    let mut owners = [0u16; search::inside::RECORDS];
+    let mut targets = [0u16; search::inside::RECORDS];
+    let mut lengths = [0u8; search::inside::RECORDS];
+    let mut highs = [0u64; search::inside::RECORDS];
+    let mut lows = [0u64; search::inside::RECORDS];
     let x = numbering::inside::number(table, name, &mut owners, &mut targets);
     gather::set_owners(table, &mut owners);
     gather::set_lengths(table, &mut lengths);
     gather::set_halves(table, &mut highs, &mut lows);
     let n = plan::inside::count(table);
-    inside::find(
+    search::inside::find(
         &owners[..n],
         &targets,
         &lengths,
@@ -65,6 +65,3 @@ fn look(table: &[u8], name: &[u8], limit: u32, out: &mut [u8]) -> octets::Answer
 }
 
 mod gather;
-pub mod inside;
-mod links;
-mod rows;

@@ -9,7 +9,7 @@ use lib.Seq.{getD-drop}
 use native.Mathlib.Omega.{arith}
 use native.Mathlib.Nat.{add-zero}
 use borrow.Author.Tests.{lt-ltb, le-ltb, eq-eqb, ne-eqb, eqb-false, ltb-false, not-false}
-use Rattle.octets.specs.Bits.{octetsFor}
+use Rattle.bits.specs.Bits.{octetsFor}
 use Rattle.names.specs.Labels.{firstOf, isLabel, countFor, countOf, sizeOf, unusedClear, runOf, faultOf}
 use Rattle.octets.proofs.SmallLaws.{earns-zero}
 use Rattle.octets.proofs.BoolLaws.{and-false}

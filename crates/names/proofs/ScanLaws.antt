@@ -8,7 +8,7 @@ use lib.ListN.{length, take, drop}
 use lib.Seq.{drop-drop}
 use native.Mathlib.Omega.{arith}
 use borrow.Author.Tests.{lt-ltb, eq-eqb, ne-eqb, eqb-true, eqb-false}
-use Rattle.octets.specs.Bits.{octetsFor, unpack}
+use Rattle.bits.specs.Bits.{octetsFor, unpack}
 use Rattle.octets.proofs.BoolLaws.{and-true, and-false}
 use Rattle.names.specs.Labels.{ordinary, bits, firstOf, countOf, sizeOf, runOf, labelOf, faultOf}
 use Rattle.names.specs.Scan.{Reading, refused, done, with, scanFrom}

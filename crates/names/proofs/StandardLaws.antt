@@ -14,7 +14,7 @@ use Rattle.names.proofs.Written.{writeLabel, written}
 use Rattle.names.proofs.Merged.{AllFit}
 use Rattle.octets.proofs.SameLaws.{same-eq, same-refl}
 use Rattle.names.proofs.WriteLaws.{encode-before, well-reads, written-back, standard-apart}
-use Rattle.octets.proofs.PackingLaws.{pack-length}
+use Rattle.bits.proofs.PackingLaws.{pack-length}
 use Rattle.names.proofs.RoundLaws.{encode-shorter, fit-labels}
 
 begun : List ℕ → Bool

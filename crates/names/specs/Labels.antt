@@ -6,7 +6,7 @@ use mathlib.Core.List.{List}
 use lib.Dec.{ltb, eqb}
 use lib.ListN.{length, getD, take, drop}
 use Rattle.octets.specs.Answers.{earns}
-use Rattle.octets.specs.Bits.{octetsFor, unpack}
+use Rattle.bits.specs.Bits.{octetsFor, unpack}
 
 -- what a label holds: the octets of an ordinary label, or the bits of a bit label, its first bit first
 pub data Label : Type 0 where

@@ -5,9 +5,9 @@ use mathlib.Core.Bool.{true, false}
 use mathlib.Core.List.{List, [], _∷_, _++_}
 use lib.Dec.{eqb}
 use lib.ListN.{length, take, drop}
-use Rattle.octets.specs.Bits.{packFrom}
+use Rattle.bits.specs.Bits.{packFrom}
 use Rattle.names.specs.Labels.{Label, ordinary, bits, sizeOf, labelOf}
-use Rattle.octets.specs.Packing.{Clean}
+use Rattle.bits.specs.Packing.{Clean}
 use Rattle.names.specs.Reads.{Reads}
 use Rattle.names.specs.Standard.{units, encodeFrom}
 use Rattle.names.specs.declared.Place.{Place}

@@ -5,7 +5,7 @@ use mathlib.Core.Bool.{Bool, _&&_}
 use mathlib.Core.List.{List, [], _∷_, _++_}
 use lib.ListN.{length}
 use Rattle.octets.specs.Octets.{same}
-use Rattle.octets.specs.Bits.{pack}
+use Rattle.bits.specs.Bits.{pack}
 use Rattle.names.specs.Labels.{Label, ordinary, bits}
 use Rattle.names.specs.Scan.{scanOf, labelsOf, wellFormed}
 

@@ -10,7 +10,7 @@ ghost use Rattle.names.specs.Standard.{standardOf, sameName, inStandardF
 ghost use Rattle.names.specs.Name.{heldOf};
 ghost use Rattle.names.specs.Answers.{standardAnswer, standardOut};
 ghost use Rattle.names.specs.Steps.{stepOf, scanned, unread, broken, stillApart};
-ghost use Rattle.octets.specs.Packing.{Clean};
+ghost use Rattle.bits.specs.Packing.{Clean};
 ghost use Rattle.names.specs.Merge.{Begins, Moved, Ran};
 
 // A name by value: its octets with zeros after them, and its length; length 0 holds no name (01, A6 data).
@@ -230,7 +230,7 @@ fn bit_label(s: &[u8], at: usize, run: usize) -> Step
     if 255 < e {
         return broken_label(12);
     }
-    if octets::inside::low(s[e - 1], octets * 8 - bits) != 0 {
+    if bits::inside::low(s[e - 1], octets * 8 - bits) != 0 {
         return broken_label(12);
     }
     let next = run + bits;
@@ -253,7 +253,7 @@ pub struct Place {
 // Where a run ended, and what of it is packed.
 pub struct Run {
     pub end: usize,
-    pub packer: octets::inside::Packer,
+    pub packer: bits::inside::Packer,
 }
 
 // The labels of a run from `at` on, after `sum` bits of it: the header at `to`, then the bits, the right label's first.
@@ -265,7 +265,7 @@ fn pack_run(name: &[u8], at: usize, sum: usize, to: usize, out: &mut [u8]) -> Ru
     if name[at] != 65 {
         out[to] = 65;
         out[to + 1] = (sum % 256) as u8;
-        let packer = octets::inside::Packer {
+        let packer = bits::inside::Packer {
             to: to + 2,
             have: 0,
             value: 0,
@@ -279,7 +279,7 @@ fn pack_run(name: &[u8], at: usize, sum: usize, to: usize, out: &mut [u8]) -> Ru
     let r = pack_run(&name[..], e, sum + n, to, out);
     let end = r.end;
     let p = r.packer;
-    let packer = octets::inside::append(name, a, n, out, p);
+    let packer = bits::inside::append(name, a, n, out, p);
     Run { end, packer }
 }
 
@@ -297,8 +297,8 @@ fn next(name: &[u8], at: usize, to: usize, out: &mut [u8]) -> Place
         let r = pack_run(name, e, n, to, out);
         let end = r.end;
         let p = r.packer;
-        let q = octets::inside::append(name, a, n, out, p);
-        let t = octets::inside::flush(out, q);
+        let q = bits::inside::append(name, a, n, out, p);
+        let t = bits::inside::flush(out, q);
         return Place { at: end, to: t };
     }
     let n = octets::wide(x) + 1;

@@ -2,8 +2,8 @@
 use Prim.Native.Nat.{ℕ}
 use mathlib.Core.Path.{_≡_, refl}
 use mathlib.Core.List.{List, [], _∷_, map}
-use Rattle.octets.specs.Octets.{blank}
-use Rattle.plan.specs.Layout.{addressSize, slotSize, a6, dname, prefixOf, targetSlot, slotOf, recordOf, countOf, octetsOf}
+use Rattle.octets.specs.Octets.{blank, flat}
+use Rattle.plan.specs.Layout.{addressSize, slotSize, a6, dname, prefixOf, targetSlot, slotOf, recordOf, countOf}
 use Rattle.plan.specs.Check.{checkOf}
 use Rattle.chains.specs.Lists.{upTo}
 use Rattle.chains.specs.Listing.{free, extend, paths, chainsFrom, chainsOf}
@@ -40,8 +40,8 @@ none = blank slotSize
 
 -- h.a leads to p.a; p.a is finished, and leads to itself and to the bits; a DNAME of q.a comes between
 plan : List ℕ
-unfolding octetsOf recordOf slotOf ha pa qa whole zeros none
-plan = octetsOf (
+unfolding flat recordOf slotOf ha pa qa whole zeros none
+plan = flat (
     recordOf a6 64 zeros (slotOf ha) (slotOf pa) ∷ recordOf a6 0 zeros (slotOf pa) none ∷ recordOf dname 0 zeros (slotOf qa) (slotOf ha)
     ∷ recordOf a6 48 zeros (slotOf pa) (slotOf pa) ∷ recordOf a6 32 zeros (slotOf pa) (slotOf whole) ∷ [])
 

@@ -1,10 +1,7 @@
 pub mod OctetLaws
 pub mod SameLaws
-pub mod BitLaws
-pub mod PackingLaws
-pub mod PackLaws
 pub mod ZeroLaws
 pub mod SmallLaws
+pub mod FlatLaws
 pub mod NumberLaws
-pub mod UnpackLaws
 pub mod BoolLaws

@@ -1,4 +1,4 @@
-// Octets, bits and answers: what every layer above shares.
+// Octets and answers: what every layer above shares.
 ghost use mathlib.Core.Path.{_≡_};
 ghost use Prim.Native.Nat.{_<_};
 ghost use lib.ListN.{length};

@@ -4,8 +4,8 @@ use mathlib.Core.Path.{_≡_, refl}
 use mathlib.Core.Bool.{true, false}
 use mathlib.Core.List.{List, [], _∷_, _++_, map}
 use lib.ListN.{take, drop, set, replicate}
-use Rattle.octets.specs.Octets.{blank}
-use Rattle.plan.specs.Layout.{slotSize, addressSize, a6, dname, slotOf, recordOf, octetsOf, recordsOf}
+use Rattle.octets.specs.Octets.{blank, flat}
+use Rattle.plan.specs.Layout.{slotSize, addressSize, a6, dname, slotOf, recordOf, recordsOf}
 use Rattle.plan.specs.Check.{faultOf, checkOf}
 use Rattle.plan.specs.Marks.{markOf, alikeOf}
 use Rattle.plan.specs.Part.{ownerPart}
@@ -108,15 +108,15 @@ unfolding faultOf recordOf slotOf ha pa root adjacent filled zeros five seven no
 faults-target = refl
 
 good : List ℕ
-unfolding octetsOf h64 p0 alias
-good = octetsOf (h64 ∷ p0 ∷ p0 ∷ alias pa ha ∷ alias ha ha ∷ [])
+unfolding flat h64 p0 alias
+good = flat (h64 ∷ p0 ∷ p0 ∷ alias pa ha ∷ alias ha ha ∷ [])
 
 -- no records, some, a length that is no multiple, a fault before and after two DNAMEs with one owner, those two alone
 checks : map checkOf (
-    [] ∷ good ∷ drop 1 good ∷ (good ++ (0 ∷ [])) ∷ take 531 good ∷ octetsOf (alias ha pa ∷ h64 ∷ alias ha ha ∷ set p0 3 1 ∷ [])
-    ∷ octetsOf (set p0 3 1 ∷ alias ha pa ∷ alias ha ha ∷ []) ∷ octetsOf (alias ha pa ∷ h64 ∷ alias ha ha ∷ []) ∷ octetsOf (alias pa pa ∷ alias ha pa ∷ alias pa pa ∷ []) ∷ [])
+    [] ∷ good ∷ drop 1 good ∷ (good ++ (0 ∷ [])) ∷ take 531 good ∷ flat (alias ha pa ∷ h64 ∷ alias ha ha ∷ set p0 3 1 ∷ [])
+    ∷ flat (set p0 3 1 ∷ alias ha pa ∷ alias ha ha ∷ []) ∷ flat (alias ha pa ∷ h64 ∷ alias ha ha ∷ []) ∷ flat (alias pa pa ∷ alias ha pa ∷ alias pa pa ∷ []) ∷ [])
     ≡ 0 ∷ 0 ∷ 1 ∷ 1 ∷ 1 ∷ 2 ∷ 2 ∷ 3 ∷ 3 ∷ []
-unfolding checkOf octetsOf good h64 p0 alias ha pa
+unfolding checkOf flat good h64 p0 alias ha pa
 checks = refl
 
 -- a table and its records
@@ -125,9 +125,9 @@ unfolding recordsOf good h64 p0 alias
 records = refl
 
 -- the owner part: of each kind of record, past the last record, and of a table that earns 3
-parts : ownerPart good 0 ∷ ownerPart good 3 ∷ ownerPart good 5 ∷ ownerPart (octetsOf (alias ha pa ∷ alias ha ha ∷ [])) 0 ∷ []
+parts : ownerPart good 0 ∷ ownerPart good 3 ∷ ownerPart good 5 ∷ ownerPart (flat (alias ha pa ∷ alias ha ha ∷ [])) 0 ∷ []
     ≡ record { offset = 21; length = 5 } ∷ record { offset = 1617; length = 5 } ∷ record { offset = 0; length = 0 } ∷ record { offset = 0; length = 0 } ∷ []
-unfolding ownerPart octetsOf good h64 p0 alias ha pa
+unfolding ownerPart flat good h64 p0 alias ha pa
 parts = refl
 
 -- a label of forty octets that ends in x, so that two such names differ past the first 32 octets of their slots

@@ -1,13 +1,14 @@
 -- Laws of the layout: a table and its records. Assumes nothing.
 use Prim.Native.Nat.{ℕ, zero, suc, _+_, _*_, _≤_, _<_}
-use mathlib.Core.Path.{_≡_, refl, ap, _∙_}
-use mathlib.Core.List.{List, [], _∷_, _++_}
+use mathlib.Core.Path.{_≡_, refl, ap, _∙_, sym}
+use mathlib.Core.List.{List, [], _∷_, _++_, append-nil}
 use lib.ListN.{length, getD, take, drop, length-append, length-drop, take-append-drop}
 use lib.Seq.{length-take-le, drop-drop, take-at, drop-at}
 use native.Mathlib.Omega.{arith}
-use Rattle.octets.specs.Octets.{Small}
+use Rattle.octets.proofs.FlatLaws.{each-at, flat-length, flat-at}
+use Rattle.octets.specs.Octets.{Small, flat, Each}
 use Rattle.octets.proofs.OctetLaws.{small-take, small-drop}
-use Rattle.plan.specs.Layout.{recordSize, countOf, recordAt, firstRecords, recordsOf, octetsOf}
+use Rattle.plan.specs.Layout.{recordSize, countOf, recordAt, firstRecords, recordsOf}
 
 -- the record at an index is within the table, and whole
 module _ (t : List ℕ) (i : ℕ) (h : i < countOf t) where
@@ -52,46 +53,39 @@ Whole rs = (i : ℕ) → i < length rs → length (getD rs i []) ≡ recordSize
 whole-tail : (r : List ℕ) (rs : List (List ℕ)) → Whole (r ∷ rs) → Whole rs
 whole-tail r rs w i h = w (suc i) (omega arith)
 
-pub octets-length : (rs : List (List ℕ)) → Whole rs → length (octetsOf rs) ≡ length rs * recordSize
-unfolding octetsOf
-octets-length [] w = refl
-octets-length (r ∷ rs) w =
-    let l = w 0 (omega arith) in
-    let m = octets-length rs (whole-tail r rs w) in
-    length-append r (octetsOf rs) ∙ omega arith
+whole-each : (rs : List (List ℕ)) → Whole rs → Each recordSize rs
+whole-each rs w = each-at recordSize rs w
 
-pub count-octets : (rs : List (List ℕ)) → Whole rs → countOf (octetsOf rs) ≡ length rs
+pub octets-length : (rs : List (List ℕ)) → Whole rs → length (flat rs) ≡ length rs * recordSize
+octets-length rs w = flat-length recordSize rs (whole-each rs w)
+
+pub count-octets : (rs : List (List ℕ)) → Whole rs → countOf (flat rs) ≡ length rs
 unfolding countOf
 count-octets rs w = omega (arith, octets-length rs w)
 
-pub record-octets : (rs : List (List ℕ)) → Whole rs → (i : ℕ) → i < length rs → recordAt (octetsOf rs) i ≡ getD rs i []
-unfolding recordAt octetsOf
-record-octets [] w i h = let z : ⊥ = omega arith in absurd z
-record-octets (r ∷ rs) w zero h = take-at r (octetsOf rs) recordSize (w 0 (omega arith))
-record-octets (r ∷ rs) w (suc i) h =
-    let e : suc i * recordSize ≡ recordSize + i * recordSize = omega arith in
-    rw (e, ← drop-drop (i * recordSize) recordSize (r ++ octetsOf rs), drop-at r (octetsOf rs) recordSize (w 0 (omega arith)))
-    (record-octets rs (whole-tail r rs w) i (omega arith))
+pub record-octets : (rs : List (List ℕ)) → Whole rs → (i : ℕ) → i < length rs → recordAt (flat rs) i ≡ getD rs i []
+unfolding recordAt
+record-octets rs w i h = ap (λ (t : List ℕ). take recordSize (drop (i * recordSize) t)) (sym (append-nil (flat rs))) ∙ flat-at recordSize [] i rs (whole-each rs w) h
 
-first-octets : (rs : List (List ℕ)) → Whole rs → firstRecords (length rs) (octetsOf rs) ≡ rs
-unfolding firstRecords octetsOf
+first-octets : (rs : List (List ℕ)) → Whole rs → firstRecords (length rs) (flat rs) ≡ rs
+unfolding firstRecords flat
 first-octets [] w = refl
 first-octets (r ∷ rs) w =
     let l = w 0 (omega arith) in
-    rw (take-at r (octetsOf rs) recordSize l, drop-at r (octetsOf rs) recordSize l) (ap (λ (xs : List (List ℕ)). r ∷ xs) (first-octets rs (whole-tail r rs w)))
+    rw (take-at r (flat rs) recordSize l, drop-at r (flat rs) recordSize l) (ap (λ (xs : List (List ℕ)). r ∷ xs) (first-octets rs (whole-tail r rs w)))
 
-pub records-octets : (rs : List (List ℕ)) → Whole rs → recordsOf (octetsOf rs) ≡ rs
+pub records-octets : (rs : List (List ℕ)) → Whole rs → recordsOf (flat rs) ≡ rs
 unfolding recordsOf
 records-octets rs w = rw (count-octets rs w) (first-octets rs w)
 
-octets-first : (n : ℕ) (t : List ℕ) → length t ≡ n * recordSize → octetsOf (firstRecords n t) ≡ t
-unfolding firstRecords octetsOf
+octets-first : (n : ℕ) (t : List ℕ) → length t ≡ n * recordSize → flat (firstRecords n t) ≡ t
+unfolding firstRecords flat
 octets-first zero [] h = refl
 octets-first zero (x ∷ t) h = let z : ⊥ = omega arith in absurd z
 octets-first (suc n) t h =
     ap (λ (xs : List ℕ). take recordSize t ++ xs) (octets-first n (drop recordSize t) (length-drop recordSize t ∙ omega arith)) ∙ take-append-drop recordSize t
 
-pub octets-records : (t : List ℕ) → length t ≡ countOf t * recordSize → octetsOf (recordsOf t) ≡ t
+pub octets-records : (t : List ℕ) → length t ≡ countOf t * recordSize → flat (recordsOf t) ≡ t
 unfolding recordsOf
 octets-records t h = octets-first (countOf t) t h
 

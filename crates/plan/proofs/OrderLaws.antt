@@ -7,13 +7,14 @@ use lib.Dec.{ltb, eqb}
 use lib.ListN.{length, getD}
 use native.Mathlib.Omega.{arith}
 use borrow.Author.Tests.{eq-eqb, ne-eqb, eqb-true, lt-ltb, le-ltb, ltb-true, ltb-false, not-false}
+use Rattle.octets.specs.Octets.{flat}
 use Rattle.octets.proofs.SmallLaws.{earns-zero}
 use Rattle.octets.specs.Answers.{refusal}
 use Rattle.names.specs.Standard.{sameName, inStandardForm}
 use Rattle.names.proofs.StandardLaws.{same-name-same, same-same-name}
 use Rattle.names.proofs.RoundLaws.{same-symmetric}
 use Rattle.plan.specs.First.{some}
-use Rattle.plan.specs.Layout.{recordSize, maxRecords, dname, typeOf, isDname, countOf, recordAt, typeAt, ownerAt, ownerOf, octetsOf}
+use Rattle.plan.specs.Layout.{recordSize, maxRecords, dname, typeOf, isDname, countOf, recordAt, typeAt, ownerAt, ownerOf}
 use Rattle.plan.specs.Check.{faultOf, faulty, firstFault, twin, repeats, firstRepeat, missized, checkOf, checkAnswer, InOrder}
 use Rattle.plan.specs.Good.{Good}
 use Rattle.plan.proofs.LayoutLaws.{Whole, octets-length, count-octets, record-octets}
@@ -133,23 +134,23 @@ module _ (t : List ℕ) (o : InOrder t) where
 
 -- a table made of good records, not too many, whose DNAMEs have owners of their own, is in order
 module _ (rs : List (List ℕ)) (w : Whole rs) where
-  made-sound : ((i : ℕ) → i < length rs → Good (getD rs i [])) → firstFault (octetsOf rs) ≡ countOf (octetsOf rs)
+  made-sound : ((i : ℕ) → i < length rs → Good (getD rs i [])) → firstFault (flat rs) ≡ countOf (flat rs)
   unfolding firstFault
   made-sound g = none-first (faulty t) (countOf t) (λ i h. faulty-not t i (at-index i (omega (arith, count-octets rs w))))
     where
       t : List ℕ
-      t = octetsOf rs
+      t = flat rs
 
       at-index : (i : ℕ) → i < length rs → faultOf (recordAt t i) ≡ 0
       at-index i h = ap faultOf (record-octets rs w i h) ∙ good-fault (getD rs i []) (g i h)
 
   made-apart : ((i j : ℕ) → i < j → j < length rs → typeOf (getD rs i []) ≡ dname → typeOf (getD rs j []) ≡ dname → sameName (ownerOf (getD rs i [])) (ownerOf (getD rs j [])) ≡ false)
-      → firstRepeat (octetsOf rs) ≡ countOf (octetsOf rs)
+      → firstRepeat (flat rs) ≡ countOf (flat rs)
   unfolding firstRepeat repeats twin
   made-apart a = none-first (repeats t) (countOf t) (λ j h. at-j j (omega (arith, count-octets rs w)) (isDname (recordAt t j)) refl)
     where
       t : List ℕ
-      t = octetsOf rs
+      t = flat rs
 
       at-i : (j i : ℕ) → i < j → j < length rs → isDname (recordAt t j) ≡ true → (b : Bool) → isDname (recordAt t i) ≡ b → twin t j i ≡ false
       at-i j i p q d false e = rw e
@@ -166,10 +167,10 @@ module _ (rs : List (List ℕ)) (w : Whole rs) where
 
   pub order-made : length rs ≤ maxRecords → ((i : ℕ) → i < length rs → Good (getD rs i []))
       → ((i j : ℕ) → i < j → j < length rs → typeOf (getD rs i []) ≡ dname → typeOf (getD rs j []) ≡ dname → sameName (ownerOf (getD rs i [])) (ownerOf (getD rs j [])) ≡ false)
-      → InOrder (octetsOf rs)
+      → InOrder (flat rs)
   order-made m g a =
-      let l : length (octetsOf rs) % recordSize ≡ 0 = omega (arith, octets-length rs w) in
+      let l : length (flat rs) % recordSize ≡ 0 = omega (arith, octets-length rs w) in
       let n = count-octets rs w in
       let s = made-sound g in
       let r = made-apart a in
-      number-none (octetsOf rs) l (omega arith) (omega arith) (omega arith)
+      number-none (flat rs) l (omega arith) (omega arith) (omega arith)

@@ -113,11 +113,7 @@ unfoldable pub firstRecords : ℕ → List ℕ → List (List ℕ)
 firstRecords zero t = []
 firstRecords (suc n) t = take recordSize t ∷ firstRecords n (drop recordSize t)
 
--- a table as the list of its records, and the table that a list of records makes
+-- a table as the list of its records; `flat` of records is the table that they make
 unfoldable pub recordsOf : List ℕ → List (List ℕ)
 unfolding countOf firstRecords
 recordsOf t = firstRecords (countOf t) t
-
-unfoldable pub octetsOf : List (List ℕ) → List ℕ
-octetsOf [] = []
-octetsOf (r ∷ rs) = r ++ octetsOf rs

@@ -11,8 +11,9 @@ use native.Mathlib.Numerals.{add-one}
 use borrow.Author.Tests.{lt-ltb, le-ltb}
 use Rattle.names.specs.Standard.{Unit, unitsOf}
 use Rattle.plan.specs.Layout.{isDname, countOf, recordAt, ownerAt, targetAt}
-use Rattle.reverse.specs.Rewrites.{Rule, Due, none, due, belowOf, sameUnits, better, dueFrom, dueOf}
-use Rattle.reverse.specs.Spots.{unitsAt}
+use Rattle.rewriting.specs.Rewrite.{belowOf, sameUnits}
+use Rattle.reverse.specs.Walk.{Rule, Due, none, due, better, dueFrom, dueOf}
+use Rattle.rewriting.specs.Spots.{unitsAt}
 use Rattle.reverse.specs.Answers.{ruleOf, rulesTo}
 use Rattle.reverse.specs.Choice.{dueFor, best, betterOf, Chosen}
 use Rattle.reverse.specs.declared.Best.{Best}

@@ -10,7 +10,8 @@ use native.Mathlib.Omega.{arith}
 use Rattle.names.specs.Standard.{Unit}
 use Rattle.plan.specs.Layout.{addressSize, nameRoom}
 use Rattle.plan.specs.Check.{InOrder}
-use Rattle.reverse.specs.Rewrites.{startOf, Rule, rewriteOf, tooLarge, Due, none, due, dueOf, End, refused, ended, walkOf}
+use Rattle.rewriting.specs.Rewrite.{rewriteOf, tooLarge}
+use Rattle.reverse.specs.Walk.{startOf, Rule, Due, none, due, dueOf, End, refused, ended, walkOf}
 use Rattle.reverse.specs.Relation.{Path, here, then, OneTarget, Settles, Exhausts, Outgrows, WalkIs}
 use Rattle.reverse.specs.Answers.{rulesOf, endOf, answerFor, outFor, reverseAnswer, reverseOut}
 use Rattle.reverse.specs.Demand.{ReverseIs}

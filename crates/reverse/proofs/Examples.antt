@@ -4,7 +4,7 @@ use mathlib.Core.Path.{_≡_, refl}
 use mathlib.Core.List.{List, [], _∷_, _++_, map}
 use lib.ListN.{replicate}
 use Rattle.names.specs.Standard.{Unit, unitsOf, encode}
-use Rattle.reverse.specs.Rewrites.{startOf, Rule, End, refused, ended, walkOf}
+use Rattle.reverse.specs.Walk.{startOf, Rule, End, refused, ended, walkOf}
 
 -- a DNAME by its octets
 dname : List ℕ → List ℕ → Rule

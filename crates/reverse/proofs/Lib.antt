@@ -1,16 +1,5 @@
-pub mod ApplyLaws
 pub mod WalkLaws
 pub mod Examples
-pub mod SpotLaws
-pub mod BitLaws
-pub mod SkipLaws
-pub mod BeneathLaws
-pub mod LinkLaws
-pub mod RunLaws
-pub mod LargeLaws
-pub mod FormLaws
-pub mod FillLaws
-pub mod SpliceLaws
 pub mod RelationLaws
 pub mod Demand
 pub mod TableLaws

@@ -10,9 +10,10 @@ use lib.Seq.{take-at, drop-at}
 use native.Mathlib.Omega.{arith}
 use borrow.Author.Tests.{ltb-true, ltb-false}
 use Rattle.names.specs.Standard.{Unit}
-use Rattle.reverse.specs.Rewrites.{Rule, Applies, belowOf, rewriteOf, Due, none, due, better, dueFrom, dueOf}
+use Rattle.rewriting.specs.Rewrite.{Applies, belowOf, rewriteOf}
+use Rattle.reverse.specs.Walk.{Rule, Due, none, due, better, dueFrom, dueOf}
 use Rattle.reverse.specs.Relation.{In, Settled, Rewrites, OneTarget}
-use Rattle.reverse.proofs.ApplyLaws.{applies-below, below-applies}
+use Rattle.rewriting.proofs.ApplyLaws.{applies-below, below-applies}
 
 -- two rules that apply and have as many units in their owners have the same owner
 pub no-tie : (o p name b c : List Unit) → Applies o name b → Applies p name c → length o ≡ length p → o ≡ p

@@ -15,16 +15,17 @@ use Rattle.names.specs.Merge.{Begins, labelsAt}
 use Rattle.names.proofs.RoundLaws.{fit-labels}
 use Rattle.plan.specs.Layout.{targetAt, isDname, countOf, recordAt}
 use Rattle.plan.specs.Check.{checkOf, InOrder}
-use Rattle.reverse.specs.Rewrites.{startOf, longRun, tooLarge, rewriteOf, none, due, dueOf, End, refused, ended, walkOf}
-use Rattle.reverse.specs.Spots.{unitsAt, Standing}
-use Rattle.reverse.specs.Splice.{fitLength, fitOctets, splicedLength, splicedOut}
+use Rattle.rewriting.specs.Rewrite.{longRun, tooLarge, rewriteOf}
+use Rattle.reverse.specs.Walk.{startOf, none, due, dueOf, End, refused, ended, walkOf}
+use Rattle.rewriting.specs.Spots.{unitsAt, Standing}
+use Rattle.rewriting.specs.Splice.{fitLength, fitOctets, splicedLength, splicedOut}
 use Rattle.reverse.specs.Answers.{rulesOf, earlyNumber, endOf, answerFor, outFor, reverseAnswer, reverseOut}
 use Rattle.reverse.specs.Choice.{dueFor, Chosen}
 use Rattle.reverse.specs.declared.Best.{Best}
-use Rattle.reverse.proofs.BeneathLaws.{octets-back}
-use Rattle.reverse.proofs.LargeLaws.{or-false}
-use Rattle.reverse.proofs.LinkLaws.{form-units}
-use Rattle.reverse.proofs.FormLaws.{FitUnits, fit-append, fit-take, fit-units, encode-standing, encode-at}
+use Rattle.rewriting.proofs.BeneathLaws.{octets-back}
+use Rattle.rewriting.proofs.LargeLaws.{or-false}
+use Rattle.rewriting.proofs.LinkLaws.{form-units}
+use Rattle.rewriting.proofs.FormLaws.{FitUnits, fit-append, fit-take, fit-units, encode-standing, encode-at}
 use Rattle.reverse.proofs.TableLaws.{target-form, target-standing}
 use Rattle.reverse.proofs.WalkLaws.{walk-ended, walk-out, walk-large, walk-on}
 

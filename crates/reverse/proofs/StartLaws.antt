@@ -7,15 +7,16 @@ use lib.ListN.{length, take, drop, length-append}
 use lib.Seq.{paste, take-all, take-at, drop-append-add}
 use native.Mathlib.Omega.{arith}
 use Rattle.octets.specs.Octets.{Small}
-use Rattle.octets.specs.Bits.{unpack, packFrom, pack}
-use Rattle.octets.proofs.BitLaws.{unpack-length, pack-unpack}
-use Rattle.octets.proofs.PackingLaws.{unpack-bits}
+use Rattle.bits.specs.Bits.{unpack, packFrom, pack}
+use Rattle.bits.proofs.BitLaws.{unpack-length, pack-unpack}
+use Rattle.bits.proofs.PackingLaws.{unpack-bits}
 use Rattle.names.specs.Standard.{Unit, label, bitLabel, encodeFrom, encode}
 use Rattle.names.proofs.WriteLaws.{encode-before, bit-label-some}
-use Rattle.reverse.specs.Rewrites.{ip6, arpa, startOf, longRun}
-use Rattle.reverse.specs.Spots.{unitsAt, Standing}
-use Rattle.reverse.proofs.LargeLaws.{long-before}
-use Rattle.reverse.proofs.FormLaws.{FitUnits, fit-before, encode-standing, encode-at}
+use Rattle.rewriting.specs.Rewrite.{longRun}
+use Rattle.reverse.specs.Walk.{ip6, arpa, startOf}
+use Rattle.rewriting.specs.Spots.{unitsAt, Standing}
+use Rattle.rewriting.proofs.LargeLaws.{long-before}
+use Rattle.rewriting.proofs.FormLaws.{FitUnits, fit-before, encode-standing, encode-at}
 
 -- the octets of IP6.ARPA, and the zeros that stand there before it is written
 abbrev suffix : List ℕ

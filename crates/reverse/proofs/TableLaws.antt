@@ -17,11 +17,11 @@ use Rattle.plan.proofs.LayoutLaws.{record-small}
 use Rattle.plan.proofs.RecordLaws.{owner-small, target-small}
 use Rattle.plan.proofs.SlotLaws.{name-small}
 use Rattle.plan.proofs.OrderLaws.{order-good, order-differ}
-use Rattle.reverse.specs.Rewrites.{Rule}
+use Rattle.reverse.specs.Walk.{Rule}
 use Rattle.reverse.specs.Relation.{In, OneTarget}
 use Rattle.reverse.specs.Answers.{ruleOf, rulesTo, rulesOf}
-use Rattle.reverse.specs.Spots.{Standing}
-use Rattle.reverse.proofs.LinkLaws.{form-standing}
+use Rattle.rewriting.specs.Spots.{Standing}
+use Rattle.rewriting.proofs.LinkLaws.{form-standing}
 
 -- a record's type, read
 module _ (t : List ℕ) (i r : ℕ) (e : r ≡ typeAt t i) where

@@ -4,7 +4,8 @@ use mathlib.Core.Path.{_≡_}
 use mathlib.Core.Bool.{true, false}
 use mathlib.Core.List.{List}
 use Rattle.names.specs.Standard.{Unit}
-use Rattle.reverse.specs.Rewrites.{Rule, none, due, dueOf, rewriteOf, tooLarge, refused, ended, onward, walkOf}
+use Rattle.rewriting.specs.Rewrite.{rewriteOf, tooLarge}
+use Rattle.reverse.specs.Walk.{Rule, none, due, dueOf, refused, ended, onward, walkOf}
 
 pub walk-ended : (limit done : ℕ) (rules : List Rule) (name : List Unit) → dueOf rules name ≡ none → walkOf limit done rules name ≡ ended name done
 unfolding walkOf

@@ -10,7 +10,7 @@ use Rattle.octets.specs.declared.Answer.{Answer}
 use Rattle.names.specs.Standard.{unitsOf, encode}
 use Rattle.plan.specs.Layout.{addressSize, nameRoom, ownerSlot, targetSlot, nameIn, isDname, ownerOf, targetOf, countOf, recordAt}
 use Rattle.plan.specs.Check.{checkOf}
-use Rattle.reverse.specs.Rewrites.{startOf, Rule, End, refused, ended, walkOf}
+use Rattle.reverse.specs.Walk.{startOf, Rule, End, refused, ended, walkOf}
 
 -- a DNAME record as a rule
 unfoldable pub ruleOf : List ℕ → Rule

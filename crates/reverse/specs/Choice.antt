@@ -7,8 +7,8 @@ use lib.Dec.{ltb}
 use lib.ListN.{length}
 use Rattle.names.specs.Standard.{unitsOf}
 use Rattle.plan.specs.Layout.{targetAt, isDname, countOf, recordAt}
-use Rattle.reverse.specs.Rewrites.{Due, none, due, dueOf}
-use Rattle.reverse.specs.Spots.{unitsAt}
+use Rattle.reverse.specs.Walk.{Due, none, due, dueOf}
+use Rattle.rewriting.specs.Spots.{unitsAt}
 use Rattle.reverse.specs.Answers.{rulesTo}
 use Rattle.reverse.specs.declared.Best.{Best}
 

@@ -8,7 +8,7 @@ use Rattle.octets.specs.Octets.{blank}
 use Rattle.octets.specs.Answers.{answering}
 use Rattle.names.specs.Standard.{Unit, encode}
 use Rattle.plan.specs.Layout.{nameRoom}
-use Rattle.reverse.specs.Rewrites.{startOf}
+use Rattle.reverse.specs.Walk.{startOf}
 use Rattle.reverse.specs.Relation.{Settles, Exhausts, Outgrows}
 use Rattle.reverse.specs.Answers.{rulesOf, reverseAnswer, reverseOut}
 

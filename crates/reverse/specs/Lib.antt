@@ -1,7 +1,5 @@
-pub mod Rewrites
+pub mod Walk
 pub mod Relation
 pub mod Answers
 pub mod Demand
-pub mod Spots
-pub mod Splice
 pub mod Choice

@@ -6,7 +6,8 @@ use mathlib.Core.List.{List, [], _∷_, _++_}
 use mathlib.Core.Logic.{_⊎_, _↔_}
 use lib.ListN.{length}
 use Rattle.names.specs.Standard.{Unit}
-use Rattle.reverse.specs.Rewrites.{Rule, Applies, tooLarge, refused, ended, walkOf}
+use Rattle.rewriting.specs.Rewrite.{Applies, tooLarge}
+use Rattle.reverse.specs.Walk.{Rule, refused, ended, walkOf}
 
 -- a rule is one of a list
 abbrev pub In : Rule → List Rule → Type 0

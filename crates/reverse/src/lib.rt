@@ -6,9 +6,9 @@ ghost use Rattle.octets.specs.Octets.{blank};
 ghost use Rattle.names.specs.Standard.{encode};
 ghost use Rattle.plan.specs.Layout.{addressSize, nameRoom, countOf};
 ghost use Rattle.plan.specs.Check.{InOrder};
-ghost use Rattle.reverse.specs.Rewrites.{startOf, walkOf};
+ghost use Rattle.reverse.specs.Walk.{startOf, walkOf};
 ghost use Rattle.reverse.specs.Answers.{rulesOf, answerFor, outFor, reverseAnswer, reverseOut};
-ghost use Rattle.reverse.specs.Spots.{unitsAt, Standing};
+ghost use Rattle.rewriting.specs.Spots.{unitsAt, Standing};
 ghost use Rattle.reverse.specs.Choice.{betterOf, Chosen};
 
 // The name at which the rewriting of an address's reverse name ends, in standard form with zeros after it; its length, and the rewrites (01, Reverse names).
@@ -68,7 +68,7 @@ fn walk(table: &[u8], name: &[u8], limit: u8, done: u8, out: &mut [u8]) -> octet
         return octets::refused(6);
     }
     let mut next = [0u8; 255];
-    let n = inside::splice(name, below, plan::inside::target(table, index), &mut next);
+    let n = rewriting::inside::splice(name, below, plan::inside::target(table, index), &mut next);
     if n == 0 {
         return octets::refused(8);
     }
@@ -104,7 +104,7 @@ fn consider(table: &[u8], name: &[u8], i: usize, b: Best) -> Best
     if plan::inside::kind(table, i) != plan::inside::DNAME {
         return b;
     }
-    let k = inside::beneath(name, plan::inside::owner(table, i));
+    let k = rewriting::inside::beneath(name, plan::inside::owner(table, i));
     better(b, k, i)
 }
 
@@ -123,5 +123,3 @@ fn better(b: Best, k: usize, i: usize) -> Best
     }
     b
 }
-
-pub mod inside;

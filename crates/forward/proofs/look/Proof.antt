@@ -12,8 +12,8 @@ use Rattle.numbering.specs.Numbers.{numberIn, namesOf, ownNumber, targetNumber}
 use Rattle.plan.specs.Graph.{graphOf}
 use Rattle.numbering.proofs.NamesLaws.{filled-at}
 use Rattle.forward.specs.Gather.{noOwner, searchOwner}
-use Rattle.forward.specs.Search as search′
-use Rattle.forward.specs.Answers.{numberOf, answerOf, outputOf}
+use Rattle.search.specs.Search as search′
+use Rattle.search.specs.Answers.{numberOf, answerOf, outputOf}
 use Rattle.forward.proofs.LookupLaws.{Filled, number-like, answer-like, output-like, read-numbered, number-below, work-read, addresses-read}
 use borrow.Author.Needs.{needs}
 use Rattle.forward.proofs.look.Statement.{statement}

@@ -11,7 +11,7 @@ use borrow.Fn.PlainCycle.{Measures, is, falls, and}
 use Rattle.names.proofs.pack_run.Reads as pack-run
 use Rattle.names.proofs.pack_run.Kinds as pack-run-kinds
 use Rattle.names.proofs.+pack_run.Lts-pack_run as pack-run-lts
-use Rattle.octets.proofs.inside.append.Reads as append-reads
+use Rattle.bits.proofs.inside.append.Reads as append-reads
 use Rattle.names.proofs.inside.count.Reads as count-reads
 use Rattle.names.proofs.+pack_run.{statement}
 use Rattle.names.proofs.+pack_run.Tie.{close}

@@ -3,7 +3,7 @@ use Prim.Native.Nat.{_+_, _-_}
 use mathlib.Core.Path.{_≡_, _∙_, sym}
 use lib.ListN.{length, getD, drop, length-drop}
 use native.Mathlib.Omega.{arith}
-use Rattle.octets.specs.Bits.{octetsFor}
+use Rattle.bits.specs.Bits.{octetsFor}
 use Rattle.names.specs.Labels.{firstOf, countOf, sizeOf, runOf}
 use Rattle.names.proofs.LabelLaws.{is-bits, size-bits, run-bits, bits-clear, bits-unclear, fault-beyond, fault-over, fault-unused, fault-run, fault-none, step-broken, step-none, first-at, count-at, unused-set, unused-none, step-at-eq}
 use borrow.Author.Needs.{needs}

@@ -9,9 +9,9 @@ use native.Mathlib.Omega.{arith}
 use borrow.Author.Needs.{needs}
 use Rattle.octets.specs.Octets.{blank, Small}
 use Rattle.octets.proofs.OctetLaws.{length-blank}
-use Rattle.reverse.proofs.FillLaws.{filled-none, filled-paste, filled-done}
+use Rattle.rewriting.proofs.FillLaws.{filled-none, filled-paste, filled-done}
 use Rattle.reverse.proofs.ReplyLaws.{reply-ended, reply-out, reply-large, target-is, target-stands, next-length, next-short, next-standing, next-walk}
-use Rattle.reverse.specs.Rewrites.{End}
+use Rattle.reverse.specs.Walk.{End}
 use Rattle.reverse.specs.Answers.{answerFor, outFor}
 use borrow.Fn.Kinds.{In}
 use borrow.Fn.PlainCycle.{Measures, is, falls, and}
@@ -22,7 +22,7 @@ use Rattle.octets.proofs.inside.copy.Reads as copy-reads
 use Rattle.octets.proofs.refused.Reads as refused-reads
 use Rattle.plan.proofs.inside.target.Reads as target-reads
 use Rattle.reverse.proofs.choose.Reads as choose-reads
-use Rattle.reverse.proofs.inside.splice.Reads as splice-reads
+use Rattle.rewriting.proofs.inside.splice.Reads as splice-reads
 use Rattle.reverse.proofs.+walk.{statement}
 use Rattle.reverse.proofs.+walk.Tie.{close}
 

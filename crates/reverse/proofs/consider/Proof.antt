@@ -6,9 +6,9 @@ use native.Mathlib.Omega.{arith}
 use Rattle.octets.specs.Octets.{Small}
 use Rattle.names.specs.Standard.{Unit, unitsOf}
 use Rattle.plan.specs.Layout.{ownerAt}
-use Rattle.reverse.specs.Rewrites.{belowOf}
-use Rattle.reverse.specs.Spots.{unitsAt}
-use Rattle.reverse.proofs.LinkLaws.{form-units}
+use Rattle.rewriting.specs.Rewrite.{belowOf}
+use Rattle.rewriting.specs.Spots.{unitsAt}
+use Rattle.rewriting.proofs.LinkLaws.{form-units}
 use Rattle.reverse.proofs.TableLaws.{dname-is, dname-not, owner-form, owner-standing}
 use Rattle.reverse.proofs.ChoiceLaws.{chosen-other, chosen-dname}
 use borrow.Author.Needs.{needs}

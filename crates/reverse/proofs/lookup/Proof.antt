@@ -8,8 +8,8 @@ use Rattle.octets.specs.Octets.{blank, Small}
 use Rattle.octets.specs.declared.Answer.{Answer}
 use Rattle.plan.specs.Check.{checkOf}
 use Rattle.plan.proofs.OrderLaws.{number-answer}
-use Rattle.reverse.specs.Rewrites.{End, walkOf}
-use Rattle.reverse.specs.Spots.{unitsAt}
+use Rattle.reverse.specs.Walk.{End, walkOf}
+use Rattle.rewriting.specs.Spots.{unitsAt}
 use Rattle.reverse.specs.Answers.{rulesOf, endOf, answerFor, outFor, reverseAnswer, reverseOut}
 use Rattle.reverse.proofs.StartLaws.{start-standing, start-units}
 use Rattle.reverse.proofs.ReplyLaws.{early-table, early-address, early-room, late}

@@ -1,0 +1,4 @@
+pub mod BitLaws
+pub mod PackingLaws
+pub mod PackLaws
+pub mod UnpackLaws

@@ -1,0 +1,11 @@
+pub mod ApplyLaws
+pub mod SpotLaws
+pub mod BitLaws
+pub mod SkipLaws
+pub mod BeneathLaws
+pub mod LinkLaws
+pub mod RunLaws
+pub mod LargeLaws
+pub mod FormLaws
+pub mod FillLaws
+pub mod SpliceLaws

@@ -1,0 +1,3 @@
+pub mod HalvesLaws
+pub mod RowsLaws
+pub mod KeepingLaws

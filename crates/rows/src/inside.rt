@@ -1,0 +1,174 @@
+// Rows of sixteen octets, ascending, each address once (specs/Rows). An address comes as two numbers of 64 bits.
+ghost use mathlib.Core.Path.{_≡_};
+ghost use mathlib.Core.Bool.{false};
+ghost use Prim.Native.Nat.{_+_, _-_, _*_, _^_, _≤_, _<_};
+ghost use lib.Dec.{eqb};
+ghost use lib.ListN.{length, getD, take, drop};
+ghost use Rattle.address.specs.Order.{orderOf};
+ghost use Rattle.rows.specs.Halves.{addressOf};
+ghost use Rattle.rows.specs.Rows.{seek, moved, putAt, maxHints, maxFigures, kept, keepAt, keepIn, Ordered};
+use address::Order;
+
+// How many hints there are, and the figures: the count, the mark, then the hints (specs/Rows). A hint is the row where an address was
+// last sought; whatever it is, the same is kept.
+const HINTS: usize = 256;
+
+pub const FIGURES: usize = 2 + HINTS;
+
+// How the row at an octet stands to an address.
+fn stands(out: &[u8], at: usize, high: u64, low: u64) -> Order
+    requires { ⌜ at + 16 ≤ length (now out) ⌝ }
+    ensures { λ r. ⌜ r ≡ orderOf (take 16 (drop at (now (out .entry)))) (addressOf high low) ⌝ }
+{
+    let h = octets::numbers::half(out, at);
+    if h < high {
+        return Order::Before;
+    }
+    if high < h {
+        return Order::After;
+    }
+    let l = octets::numbers::half(out, at + 8);
+    if l < low {
+        return Order::Before;
+    }
+    if low < l {
+        return Order::After;
+    }
+    Order::Same
+}
+
+// Where an address belongs among the rows from a to b.
+fn place(out: &[u8], a: usize, b: usize, high: u64, low: u64) -> usize
+    requires { ⌜ (a ≤ b) × (b * 16 ≤ length (now out)) ⌝ }
+    ensures { λ r. ⌜ (r ≡ seek (b - a) (now (out .entry)) (addressOf high low) a b) × (r ≤ b) ⌝ }
+{
+    let mut from = a;
+    let mut to = b;
+    while from < to {
+        let middle = (from + to) / 2;
+        let order = stands(out, middle * 16, high, low);
+        match order {
+            Order::Before => {
+                from = middle + 1;
+            }
+            _ => {
+                to = middle;
+            }
+        }
+    }
+    from
+}
+
+// Moves the octets from k up to c sixteen further.
+fn shift(out: &mut [u8], k: usize, c: usize)
+    requires { ⌜ (k ≤ c) × (c + 16 ≤ length (now out)) ⌝ }
+    ensures { λ _. ⌜ now (out .exit) ≡ moved k c (now (out .entry)) ⌝ }
+{
+    let mut j = c;
+    while k < j {
+        j -= 1;
+        out[j + 16] = out[j];
+    }
+}
+
+// Puts an address at the octet k, and moves what stands from k up to c.
+fn put(out: &mut [u8], k: usize, c: usize, high: u64, low: u64)
+    requires { ⌜ (k ≤ c) × (c + 16 ≤ length (now out)) ⌝ }
+    ensures { λ _. ⌜ now (out .exit) ≡ putAt k c (addressOf high low) (now (out .entry)) ⌝ }
+{
+    shift(out, k, c);
+    octets::numbers::write(out, k, high);
+    octets::numbers::write(out, k + 8, low);
+}
+
+// Puts an address at the row k, unless it stands there; where there is no room, that is marked.
+fn keep_at(out: &mut [u8], figures: &mut [usize; FIGURES], k: usize, high: u64, low: u64)
+    requires { ⌜ (length (now figures) ≡ maxFigures) × (getD (now figures) 0 0 * 16 ≤ length (now out)) ⌝ }
+    requires { ⌜ (k ≤ getD (now figures) 0 0) × (eqb (getD (now figures) 1 0) 1 ≡ false) ⌝ }
+    ensures { λ _. ⌜ (kept (now (out .exit)) (now (figures .exit)) ≡ keepAt k (addressOf high low) (kept (now (out .entry)) (now (figures .entry)))) × (length (now (figures .exit)) ≡ maxFigures) × (getD (now (figures .exit)) 0 0 * 16 ≤ length (now (out .entry))) ⌝ }
+{
+    let count = figures[0];
+    let at = k * 16;
+    if k < count {
+        let order = stands(out, at, high, low);
+        match order {
+            Order::Same => {
+                return;
+            }
+            _ => {}
+        }
+    }
+    let end = count * 16;
+    if end + 16 <= out.len() {
+        put(out, at, end, high, low);
+        figures[0] = count + 1;
+        return;
+    }
+    figures[1] = 1;
+}
+
+// The same at the row where it belongs, which is sought among those from a to b and becomes the hint at a spot.
+fn keep_among(
+    out: &mut [u8],
+    figures: &mut [usize; FIGURES],
+    spot: usize,
+    a: usize,
+    b: usize,
+    high: u64,
+    low: u64,
+)
+    requires { ⌜ (length (now figures) ≡ maxFigures) × (getD (now figures) 0 0 * 16 ≤ length (now out)) ⌝ }
+    requires { ⌜ (2 ≤ spot) × (spot < maxFigures) × (eqb (getD (now figures) 1 0) 1 ≡ false) ⌝ }
+    requires { ⌜ (a ≤ b) × (b ≤ getD (now figures) 0 0) × (seek (b - a) (now out) (addressOf high low) a b ≡ seek (getD (now figures) 0 0) (now out) (addressOf high low) 0 (getD (now figures) 0 0)) ⌝ }
+    ensures { λ _. ⌜ (kept (now (out .exit)) (now (figures .exit)) ≡ keepIn (addressOf high low) (kept (now (out .entry)) (now (figures .entry)))) × (length (now (figures .exit)) ≡ maxFigures) × (getD (now (figures .exit)) 0 0 * 16 ≤ length (now (out .entry))) ⌝ }
+{
+    let k = place(out, a, b, high, low);
+    figures[spot] = k;
+    keep_at(out, figures, k, high, low);
+}
+
+// A number of 64 bits in fewer, for a spot.
+fn folded(x: u64) -> u64
+    ensures { λ r. ⌜ r < 2 ^ 34 ⌝ }
+{
+    x / 4294967296 + x % 4294967296 * 3
+}
+
+// The spot of an address among the hints. Any would do: this one keeps addresses apart that differ in few bits.
+fn spot_of(high: u64, low: u64) -> usize
+    ensures { λ r. ⌜ r < maxHints ⌝ }
+{
+    let a = folded(high) + folded(low) * 5;
+    (a % 4294967296 * 2654435761 / 16777216) as usize % HINTS
+}
+
+// Keeps an address in its place, unless it is there; where there is no room, that is marked. The row of the hint mostly is the address;
+// if not, it tells where to seek it.
+pub fn keep(out: &mut [u8], figures: &mut [usize; FIGURES], high: u64, low: u64)
+    requires { ⌜ (length (now figures) ≡ maxFigures) × (getD (now figures) 0 0 * 16 ≤ length (now out)) × Ordered (kept (now out) (now figures)) ⌝ }
+    ensures { λ _. ⌜ (kept (now (out .exit)) (now (figures .exit)) ≡ keepIn (addressOf high low) (kept (now (out .entry)) (now (figures .entry)))) × (length (now (figures .exit)) ≡ maxFigures) × (getD (now (figures .exit)) 0 0 * 16 ≤ length (now (out .entry))) ⌝ }
+{
+    if figures[1] == 1 {
+        return;
+    }
+    let count = figures[0];
+    let spot = 2 + spot_of(high, low);
+    let hint = figures[spot];
+    if hint < count {
+        let order = stands(out, hint * 16, high, low);
+        match order {
+            Order::Same => {
+                return;
+            }
+            Order::Before => {
+                keep_among(out, figures, spot, hint + 1, count, high, low);
+                return;
+            }
+            Order::After => {
+                keep_among(out, figures, spot, 0, hint, high, low);
+                return;
+            }
+        }
+    }
+    keep_among(out, figures, spot, 0, count, high, low);
+}

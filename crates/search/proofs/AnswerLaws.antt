@@ -1,0 +1,203 @@
+-- From the state that a search leaves to the answer: the work against the limit, what is kept against the room. Assumes nothing.
+use Prim.Native.Nat.{ℕ, suc, _+_, _-_, _*_, _/_, _%_, _^_, _≤_, _<_}
+use mathlib.Core.Path.{_≡_, refl, sym, ap, subst, _∙_}
+use mathlib.Core.Logic.{inl, inr, ⊎-elim}
+use mathlib.Core.Bool.{Bool, true, false}
+use mathlib.Core.List.{List, [], _∷_, _++_}
+use native.Mathlib.Decide.{decLt}
+use native.Mathlib.Omega.{arith}
+use lib.Dec.{eqb}
+use lib.ListN.{length, getD, replicate}
+use borrow.Author.Tests.{lt-ltb, le-ltb, eqb-true}
+use Rattle.octets.specs.Octets.{blank, flat}
+use Rattle.octets.specs.Answers.{answering, refusal}
+use Rattle.octets.proofs.OctetLaws.{length-blank}
+use Rattle.chains.specs.Lists.{In, pick}
+use Rattle.chains.specs.Graph.{Graph, Sound}
+use Rattle.chains.specs.Chain.{lastLength, spelt}
+use Rattle.chains.specs.Listing.{chainsOf, workOf}
+use Rattle.chains.specs.Addresses.{insert, gather, addressesOf, spell}
+use Rattle.chains.proofs.Listed.{listed-chain}
+use Rattle.chains.proofs.SpellingLaws.{spelt-length, spell-spelt, addresses-spell}
+use Rattle.rows.specs.Rows.{Kept, maxFigures, kept, keepIn, Holds}
+use Rattle.search.specs.Search.{Records, graphOf, State, visit, run, searched}
+use Rattle.octets.specs.Numbers.{octetsOf}
+use Rattle.rows.specs.Halves.{addressOf}
+use Rattle.search.specs.Links.{Linked, Numbered, Fresh, Memory, memory, stateOf, unusedOf, searchOf, Fit, Done}
+use Rattle.search.specs.Answers.{numberOf, answerOf, outputOf}
+use Rattle.rows.proofs.HalvesLaws.{address-length, address-small}
+use Rattle.search.proofs.LinkLaws.{marks-none}
+use Rattle.search.proofs.SearchLaws.{visit-over, visit-within, run-over}
+use Rattle.rows.proofs.KeepingLaws.{keep-holds, insert-length}
+
+-- ---- a run within the limit, and one beyond it
+module _ {N : Type 0} (g : Graph N) (limit b : ℕ) (a : List ℕ) where
+  visit-work : (s : State) (p : List ℕ) → s .0 ≤ limit → visit g limit b a s p .0 ≡ s .0 + 1
+  visit-work s p w = ap (λ (r : State). r .0) (visit-within g limit b a s p w)
+
+  visit-holds : (room : ℕ) (s : State) (l : List (List ℕ)) (p : List ℕ) → (lastLength g b p ≡ 0 → length (spell g b a p) ≡ 16) → s .0 ≤ limit → Holds room l (s .1)
+      → Holds room (pick (eqb (lastLength g b p) 0) (insert (spell g b a p) l) l) (visit g limit b a s p .1)
+  visit-holds room s l p n w h = rw (visit-within g limit b a s p w) (go (eqb (lastLength g b p) 0) refl)
+    where
+      go : (t : Bool) → eqb (lastLength g b p) 0 ≡ t → Holds room (pick t (insert (spell g b a p) l) l) (pick t (keepIn (spell g b a p) (s .1)) (s .1))
+      go true e = keep-holds room (spell g b a p) l (s .1) (n (eqb-true (lastLength g b p) 0 e)) h
+      go false e = h
+
+  run-holds : (room : ℕ) (ps : List (List ℕ)) (s : State) (l : List (List ℕ)) → ((p : List ℕ) → In p ps → lastLength g b p ≡ 0 → length (spell g b a p) ≡ 16)
+      → Holds room l (s .1) → s .0 + length ps ≤ limit + 1
+      → (run g limit b a s ps .0 ≡ s .0 + length ps) × Holds room (gather g b (spell g b a) l ps) (run g limit b a s ps .1)
+  unfolding run gather
+  run-holds room [] s l u h n = (omega arith, h)
+  run-holds room (p ∷ ps) s l u h n =
+      let w = visit-work s p (omega arith) in
+      let r = run-holds room ps (visit g limit b a s p) _ (λ q k. u q (inr k)) (visit-holds room s l p (u p (inl refl)) (omega arith) h) (omega (arith, w)) in
+      (omega (arith, w, r .0), r .1)
+
+  run-beyond : (ps : List (List ℕ)) (s : State) → limit < s .0 + length ps → limit < run g limit b a s ps .0
+  unfolding run
+  run-beyond [] s n = omega arith
+  run-beyond (p ∷ ps) s n = go (decLt limit (s .0)) (run-beyond ps (visit g limit b a s p))
+    where
+      go : Dec (limit < s .0) → (limit < visit g limit b a s p .0 + length ps → limit < run g limit b a (visit g limit b a s p) ps .0)
+          → limit < run g limit b a (visit g limit b a s p) ps .0
+      go (yes h) r = rw (visit-over g limit b a s p h, run-over g limit b a s ps h) h
+      go (no h) r = r (omega (arith, visit-work s p (omega (arith, h))))
+
+-- no more addresses than chains
+gather-length : {N : Type 0} (g : Graph N) (b : ℕ) (f : List ℕ → List ℕ) (ps l : List (List ℕ)) → length (gather g b f l ps) ≤ length l + length ps
+unfolding gather
+gather-length g b f [] l = omega arith
+gather-length g b f (p ∷ ps) l = let r = gather-length g b f ps (pick (eqb (lastLength g b p) 0) (insert (f p) l) l) in omega (arith, go (eqb (lastLength g b p) 0))
+  where
+    go : (t : Bool) → length (pick t (insert (f p) l) l) ≤ suc (length l)
+    go true = insert-length (f p) l .1
+    go false = omega arith
+
+-- ---- the whole search, from nothing
+abbrev pub start : ℕ → Kept
+start room = record { out = blank (room * 16); count = 0; full = false }
+
+begun : (room : ℕ) → Holds room [] (start room)
+unfolding flat
+begun room = record { rows = tt; ascending = tt; stands = inl (refl, refl, omega arith, ap (λ (n : ℕ). blank (n * 16)) (let z : room ≡ room - 0 = omega arith in z)) }
+
+module _ {N : Type 0} (g : Graph N) (sound : Sound g) (x : N) (limit room : ℕ) (s : State) (e : s ≡ searched g limit (blank (g .size)) x 128 (blank 16) (0, start room)) where
+  ran : s ≡ run g limit 128 (blank 16) (0, start room) (chainsOf g x)
+  unfolding searched chainsOf
+  ran = e
+
+  within : workOf g x ≤ limit → (s .0 ≡ workOf g x) × Holds room (addressesOf g x) (s .1)
+  unfolding workOf
+  within h =
+      let r = run-holds g limit 128 (blank 16) room (chainsOf g x) (0, start room) []
+      (λ p m z. ap length (spell-spelt g sound x p (blank 16) (listed-chain g x p m .0) z (length-blank 16)) ∙ spelt-length g p) (begun room) (omega arith) in
+      rw (ran, addresses-spell g sound x) (omega (arith, r .0), r .1)
+
+  beyond : limit < workOf g x → limit < s .0
+  unfolding workOf
+  beyond h = rw ran (run-beyond g limit 128 (blank 16) (chainsOf g x) (0, start room) (omega arith))
+
+  -- the work has passed the limit: 6
+  pub found-over : limit < s .0 → numberOf g x limit room ≡ 6
+  unfolding numberOf
+  found-over h = go (decLt limit (workOf g x))
+    where
+      go : Dec (limit < workOf g x) → numberOf g x limit room ≡ 6
+      go (yes l) = rw (lt-ltb limit (workOf g x) l)
+      go (no n) = absurd (omega (arith, n, within (omega (arith, n)) .0))
+
+  module _ (w : s .0 ≤ limit) where
+    few : workOf g x ≤ limit
+    few = go (decLt limit (workOf g x))
+      where
+        go : Dec (limit < workOf g x) → workOf g x ≤ limit
+        go (yes l) = absurd (omega (arith, beyond l))
+        go (no n) = omega (arith, n)
+
+    -- there was no room: 7
+    pub found-full : s .1 .full ≡ true → numberOf g x limit room ≡ 7
+    unfolding numberOf
+    found-full h =
+        ⊎-elim (λ k. absurd (let q : _≡_ {A = ℕ} 0 1 = cc (h, k .0) in omega arith))
+        (λ k. rw (le-ltb limit (workOf g x) few, lt-ltb room (length (addressesOf g x)) (k .1))) (within few .1 .stands)
+
+    -- all was counted and all is kept: 0
+    record All : Type 0 where
+      number : numberOf g x limit room ≡ 0
+      count : s .1 .count ≡ length (addressesOf g x)
+      out : s .1 .out ≡ flat (addressesOf g x) ++ blank ((room - length (addressesOf g x)) * 16)
+
+    all : s .1 .full ≡ false → All
+    unfolding numberOf
+    all h =
+        ⊎-elim
+        (λ k. record { number = rw (le-ltb limit (workOf g x) few, le-ltb room (length (addressesOf g x)) (k .2)); count = k .1; out = k .3 })
+        (λ k. absurd (let q : _≡_ {A = ℕ} 0 1 = cc (h, k .0) in omega arith)) (within few .1 .stands)
+
+    module _ (h : s .1 .full ≡ false) where
+      pub found-answer : answering (s .1 .count) (s .0) ≡ answerOf g x (numberOf g x limit room)
+      unfolding answerOf
+      found-answer = rw (all h .number) (λ i. answering (all h .count i) (within few .0 i))
+
+      pub found-output : s .1 .out ≡ outputOf g x (numberOf g x limit room) (room * 16)
+      unfolding outputOf
+      found-output =
+          let q : (room - length (addressesOf g x)) * 16 ≡ room * 16 - length (addressesOf g x) * 16 = omega arith in
+          rw (all h .number) (all h .out ∙ ap (λ (n : ℕ). flat (addressesOf g x) ++ blank n) q)
+
+      -- so many fit the answer
+      pub found-few : s .1 .count ≤ limit
+      unfolding addressesOf workOf
+      found-few = let q = gather-length g 128 (spelt g) (chainsOf g x) [] in omega (arith, all h .count, few)
+
+-- a refusal
+module _ {N : Type 0} (g : Graph N) (x : N) (number k : ℕ) (e : number ≡ suc k) where
+  pub refused-answer : refusal (suc k) ≡ answerOf g x number
+  unfolding answerOf
+  refused-answer = rw e
+
+  pub refused-output : (size : ℕ) → blank size ≡ outputOf g x number size
+  unfolding outputOf
+  refused-output size = rw e
+
+-- ---- the arrays as a graph
+pub numbered-sound : (r : Records) → Numbered r → Sound (graphOf r)
+numbered-sound r n = record {
+  sixteen = λ i l. address-length (getD (r .highs) i 0) (getD (r .lows) i 0);
+  small = λ i l. address-small (getD (r .highs) i 0) (getD (r .lows) i 0);
+  short = n .short;
+}
+
+-- ---- where the search begins: every record in its list, nothing kept
+module _ (r : Records) (n : Numbered r) (next prev out : List ℕ) (limit : ℕ) (h : Fresh (r .owners) next prev) (whole : length out % 16 ≡ 0) (zeros : out ≡ blank (length out)) where
+  abbrev first : Memory
+  first = memory next prev out (replicate maxFigures 0) 0
+
+  begins : kept (first .out) (first .figures) ≡ start (length out / 16)
+  begins =
+      let q : length out ≡ length out / 16 * 16 = omega arith in
+      λ i. record { out = (zeros ∙ ap blank q) i; count = 0; full = false }
+
+  none-used : unusedOf r first ≡ blank (length (r .owners))
+  none-used = marks-none (r .owners) (blank (length (r .owners))) next prev (h .linked) refl
+
+  pub fit-first : limit < 2 ^ 32 → Fit r first 128 limit
+  fit-first l = record {
+    numbered = n;
+    nodes = h .nodes;
+    linked = subst (λ (u : List ℕ). Linked (r .owners) u next prev) (sym none-used) (h .linked);
+    places = refl;
+    room = omega arith;
+    ordered = record { room = length out / 16; list = []; holds = subst (Holds (length out / 16) []) (sym begins) (begun (length out / 16)) };
+    some = omega arith;
+    bounded = omega arith;
+    limited = l;
+  }
+
+  nothing-yet : addressOf 0 0 ≡ blank 16
+  unfolding addressOf octetsOf blank
+  nothing-yet = refl
+
+  pub state-first : (x : ℕ) (m′ : Memory) → Done first m′ (searchOf r limit x 128 (addressOf 0 0) first)
+      → stateOf m′ ≡ searched (graphOf r) limit (blank (length (r .owners))) x 128 (blank 16) (0, start (length out / 16))
+  state-first x m′ d = d .state ∙ λ i. searched (graphOf r) limit (none-used i) x 128 (nothing-yet i) (0, begins i)

@@ -1,0 +1,187 @@
+-- A search that follows the links: it passes over nothing that fits, and comes to the end of its name's list with the state that is expected. Assumes nothing.
+use Prim.Native.Nat.{ℕ, zero, suc, _+_, _-_, _*_, _≤_, _<_, min}
+use mathlib.Core.Path.{_≡_, refl, sym, ap, subst, _∙_}
+use mathlib.Core.Bool.{Bool, true, false, _&&_}
+use mathlib.Core.List.{List}
+use native.Mathlib.Nat.{add-zero}
+use native.Mathlib.Omega.{arith}
+use lib.Dec.{leb, eqb}
+use lib.ListN.{length, getD}
+use borrow.Author.Tests.{eq-eqb, eqb-true, leb-true}
+use Rattle.octets.proofs.BoolLaws.{clash}
+use Rattle.chains.specs.Listing.{fits}
+use Rattle.chains.proofs.ListingLaws.{fits-is, is-fits}
+use Rattle.rows.specs.Rows.{maxFigures, Ordered}
+use Rattle.search.specs.Search.{Records, graphOf, State, stepped}
+use Rattle.search.specs.Links.{lists, First, Linked, Memory, memory, stateOf, unusedOf, searchOf, stepOf, Fit, Done}
+use Rattle.rows.proofs.HalvesLaws.{address-length}
+use Rattle.rows.proofs.KeepingLaws.{keep-ordered}
+use Rattle.search.proofs.NodeLaws.{below?}
+use Rattle.search.proofs.LinkLaws.{lists-yes, lists-owner, lists-free}
+use Rattle.search.proofs.SearchLaws.{searchedTo, to-none, to-all, to-keeps, to-skip, to-step, to-end}
+
+-- what is equal part by part
+pub memory-eq : {n n′ p p′ o o′ f f′ : List ℕ} {w w′ : ℕ} → n′ ≡ n → p′ ≡ p → o′ ≡ o → f′ ≡ f → w′ ≡ w → memory n′ p′ o′ f′ w′ ≡ memory n p o f w
+memory-eq en ep eo ef ew = λ i. memory (en i) (ep i) (eo i) (ef i) (ew i)
+
+pub done-as : (m m′ m″ : Memory) (s : State) → m″ ≡ m′ → Done m m′ s → Done m m″ s
+done-as m m′ m″ s e d = subst (λ (v : Memory). Done m v s) (sym e) d
+
+-- ---- what is in a list fits unless it is too long, and nothing else does
+module _ (r : Records) (u : List ℕ) (x b m : ℕ) where
+  unlisted : lists (r .owners) u x m ≡ false → fits (graphOf r) u x b m ≡ false
+  unlisted h = go (fits (graphOf r) u x b m) refl
+    where
+      go : (t : Bool) → fits (graphOf r) u x b m ≡ t → t ≡ false
+      go true e =
+          let f = is-fits (graphOf r) u x b m e in
+          absurd (clash (lists-yes (r .owners) u x m (eqb-true (getD (r .owners) m 0) x (f .2)) (f .0)) h)
+      go false e = refl
+
+  long-unfit : leb (getD (r .lengths) m 0) b ≡ false → fits (graphOf r) u x b m ≡ false
+  long-unfit l = go (eqb (getD u m 0) 0)
+    where
+      go : (t : Bool) → t && (leb (getD (r .lengths) m 0) b && eqb (getD (r .owners) m 0) x) ≡ false
+      go true = rw l
+      go false = refl
+
+  listed-fits : lists (r .owners) u x m ≡ true → leb (getD (r .lengths) m 0) b ≡ true → fits (graphOf r) u x b m ≡ true
+  listed-fits h l =
+      fits-is (graphOf r) u x b m (lists-free (r .owners) u x m h) (leb-true (getD (r .lengths) m 0) b l)
+      (eq-eqb (getD (r .owners) m 0) x (lists-owner (r .owners) u x m h))
+
+module _ (r : Records) (limit x b : ℕ) (a : List ℕ) (m : Memory) where
+  abbrev n : ℕ
+  n = length (r .owners)
+
+  abbrev u : List ℕ
+  u = unusedOf r m
+
+  abbrev to : ℕ → State
+  to i = searchedTo (graphOf r) limit u x b a (stateOf m) i
+
+  -- ---- following the links passes over nothing that fits
+  pass : (d j : ℕ) → ((w : ℕ) → j ≤ w → w < j + d → lists (r .owners) u x w ≡ false) → to (j + d) ≡ to j
+  pass zero j h = ap to (add-zero j)
+  pass (suc d) j h =
+      let e : j + suc d ≡ suc (j + d) = omega arith in
+      ap to e
+      ∙ to-skip (graphOf r) limit u x b a (stateOf m) (j + d) (unlisted r u x b (j + d) (h (j + d) (omega arith) (omega arith)))
+      ∙ pass d j (λ w l o. h w l (omega arith))
+
+  pass-to : (j t : ℕ) → j ≤ t → ((w : ℕ) → j ≤ w → w < t → lists (r .owners) u x w ≡ false) → to t ≡ to j
+  pass-to j t l h =
+      let e : t ≡ j + (t - j) = omega arith in
+      ap to e ∙ pass (t - j) j (λ w o q. h w o (omega arith))
+
+  -- ---- the loop: at i, which is in the list of x or past all records
+  pub record Going (m′ : Memory) (i : ℕ) : Type 0 where
+    pub next : m′ .next ≡ m .next
+    pub prev : m′ .prev ≡ m .prev
+    pub state : stateOf m′ ≡ to (min i n)
+    pub places : length (m′ .figures) ≡ maxFigures
+    pub room : getD (m′ .figures) 0 0 * 16 ≤ length (m .out)
+    pub out : length (m′ .out) ≡ length (m .out)
+    pub listed : i < n → lists (r .owners) u x i ≡ true
+
+  module _ (k : Linked (r .owners) u (m .next) (m .prev)) where
+    pub going-start : (i : ℕ) → length (m .figures) ≡ maxFigures → n + x < length (m .next) → getD (m .figures) 0 0 * 16 ≤ length (m .out) → i ≡ getD (m .next) (n + x) 0 → Going m i
+    going-start i t l o e =
+        let h = subst (First (lists (r .owners) u x) n (n + x) 0) (sym e) (k .head x l) in
+        record {
+          next = refl;
+          prev = refl;
+          state = to-none (graphOf r) limit u x b a (stateOf m) ∙ sym (pass-to 0 (min i n) (omega arith) (λ w p q. h .none w p (omega arith) (omega arith)));
+          places = t;
+          room = o;
+          out = refl;
+          listed = λ o. h .here o .1;
+        }
+
+    module _ (m′ : Memory) (i : ℕ) (v : Going m′ i) (li : i < n) where
+      pub unmarked : getD u i 0 ≡ 0
+      unmarked = lists-free (r .owners) u x i (v .listed li)
+
+      follows : First (lists (r .owners) u x) n (n + x) (suc i) (getD (m .next) i 0)
+      follows =
+          subst (λ (y : ℕ). First (lists (r .owners) u y) n (n + y) (suc i) (getD (m .next) i 0)) (lists-owner (r .owners) u x i (v .listed li)) (k .on i li unmarked)
+
+      pub further : i < getD (m′ .next) i 0
+      further =
+          let e : getD (m′ .next) i 0 ≡ getD (m .next) i 0 = ap (λ (w : List ℕ). getD w i 0) (v .next) in
+          below? (getD (m .next) i 0) n (λ o. let q = follows .here o .0 in omega arith) (λ o. omega arith)
+
+      -- on from i, where what the records up to i give is known
+      going : (m″ : Memory) (j : ℕ) → m″ .next ≡ m .next → m″ .prev ≡ m .prev → stateOf m″ ≡ to (suc i) → length (m″ .figures) ≡ maxFigures
+          → getD (m″ .figures) 0 0 * 16 ≤ length (m .out) → length (m″ .out) ≡ length (m .out) → j ≡ getD (m″ .next) i 0 → Going m″ j
+      going m″ j en ep es t o lo ej =
+          let h = subst (First (lists (r .owners) u x) n (n + x) (suc i)) (sym (ej ∙ ap (λ (w : List ℕ). getD w i 0) en)) follows in
+          let s : suc i ≤ min j n = below? j n (λ o. let z = h .here o .0 in omega arith) (λ o. omega arith) in
+          record {
+            next = en;
+            prev = ep;
+            state = es ∙ sym (pass-to (suc i) (min j n) s (λ w p q. h .none w p (omega arith) (omega arith)));
+            places = t;
+            room = o;
+            out = lo;
+            listed = λ o. h .here o .1;
+          }
+
+      at-i : stateOf m′ ≡ to i
+      at-i = let e : min i n ≡ i = omega arith in v .state ∙ ap to e
+
+      -- a record that is too long is passed over
+      pub going-skip : (j : ℕ) → leb (getD (r .lengths) i 0) b ≡ false → j ≡ getD (m′ .next) i 0 → Going m′ j
+      going-skip j l ej =
+          going m′ j (v .next) (v .prev) (at-i ∙ sym (to-skip (graphOf r) limit u x b a (stateOf m) i (long-unfit r u x b i l))) (v .places) (v .room) (v .out) ej
+
+      -- the links are as they were
+      same-links : _≡_ {A = Memory} (memory (m′ .next) (m′ .prev) (m .out) (m .figures) 0) (memory (m .next) (m .prev) (m .out) (m .figures) 0)
+      same-links = memory-eq (v .next) (v .prev) refl refl refl
+
+      pub same-unused : unusedOf r m′ ≡ u
+      same-unused = ap (unusedOf r) same-links
+
+      -- and the step is taken into any other: the memory is fit for it
+      pub going-fit : Fit r m b limit → length a ≡ 16 → Fit r m′ b limit
+      going-fit f w = record {
+        numbered = f .numbered;
+        nodes = ap length (v .next) ∙ f .nodes;
+        linked = subst (λ (w : Memory). Linked (r .owners) (unusedOf r w) (w .next) (w .prev)) (sym same-links) k;
+        places = v .places;
+        room = subst (λ (w : ℕ). getD (m′ .figures) 0 0 * 16 ≤ w) (sym (v .out)) (v .room);
+        ordered = subst (λ (s : State). Ordered (s .1)) (sym at-i)
+            (to-keeps (graphOf r) limit u x b a (stateOf m) Ordered (λ j. address-length (getD (r .highs) j 0) (getD (r .lows) j 0)) keep-ordered w (f .ordered) i);
+        some = f .some;
+        bounded = f .bounded;
+        limited = f .limited;
+      }
+
+      pub going-step : (m″ : Memory) (j : ℕ) → leb (getD (r .lengths) i 0) b ≡ true → Done m′ m″ (stepOf r limit i b a m′) → length (m″ .out) ≡ length (m′ .out)
+          → j ≡ getD (m″ .next) i 0 → Going m″ j
+      going-step m″ j l d lo ej =
+          going m″ j (d .next ∙ v .next) (d .prev ∙ v .prev)
+          (d .state ∙ ap (λ (w : List ℕ). stepped (graphOf r) limit w i b a (stateOf m′)) same-unused ∙ ap (stepped (graphOf r) limit u i b a) at-i
+          ∙ sym (to-step (graphOf r) limit u x b a (stateOf m) i (listed-fits r u x b i (v .listed li) l)))
+          (d .places) (subst (λ (w : ℕ). getD (m″ .figures) 0 0 * 16 ≤ w) (v .out) (d .room)) (lo ∙ v .out) ej
+
+      -- past the limit the rest changes nothing
+      pub going-over : limit < m′ .work → Done m m′ (searchOf r limit x b a m)
+      going-over h = record {
+        next = v .next;
+        prev = v .prev;
+        state = at-i ∙ sym (to-end (graphOf r) limit u x b a (stateOf m) i (omega arith) (subst (λ (w : State). limit < w .0) at-i h));
+        places = v .places;
+        room = v .room;
+      }
+
+    pub going-end : (m′ : Memory) (i : ℕ) → Going m′ i → n ≤ i → Done m m′ (searchOf r limit x b a m)
+    going-end m′ i v l =
+        let e : min i n ≡ n = omega arith in
+        record {
+          next = v .next;
+          prev = v .prev;
+          state = v .state ∙ ap to e ∙ to-all (graphOf r) limit u x b a (stateOf m);
+          places = v .places;
+          room = v .room;
+        }

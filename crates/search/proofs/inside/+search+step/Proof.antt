@@ -1,0 +1,805 @@
+-- `search::inside::search` and `step` meet their contracts: unused records fall with each step, and the loop's invariant is that what is passed has been searched. Assumes nothing.
+use Prim.Native.Nat.{ℕ, _<_, _+_, _-_, _*_}
+use mathlib.Core.List.{List}
+use mathlib.Core.Logic.{⊎-elim}
+use mathlib.Core.Path.{_≡_, refl, sym, ap, subst, _∙_}
+use native.Mathlib.Omega.{arith}
+use lib.ListN.{length, getD}
+use borrow.Author.Tests.{le-leb, lt-leb}
+use borrow.Author.Needs.{needs}
+use borrow.Fn.Kinds.{In}
+use borrow.Fn.PlainCycle.{Measures, is, falls, and}
+use Rattle.chains.specs.Listing.{free}
+use Rattle.search.specs.Links.{Memory, memory, marksOf, searchOf, stepOf, Done}
+use Rattle.search.specs.Search.{records}
+use Rattle.rows.specs.Halves.{addressOf}
+use Rattle.rows.proofs.HalvesLaws.{address-length}
+use Rattle.search.proofs.StepLaws.{without, p-node, q-node, fewer, fit-without, nothing, still-long, done-finished, done-unfinished}
+use Rattle.search.proofs.GoingLaws.{memory-eq, done-as, Going, going-start, going-step, going-skip, going-over, going-end, going-fit, unmarked, further, same-unused}
+use Rattle.search.proofs.inside.search.Reads as search′
+use Rattle.search.proofs.inside.search.Kinds as search-kinds
+use Rattle.search.proofs.inside.+search+step.Lts-search as search-lts
+use Rattle.search.proofs.inside.step.Reads as step
+use Rattle.search.proofs.inside.step.Kinds as step-kinds
+use Rattle.search.proofs.inside.+search+step.Lts-step as step-lts
+use Rattle.search.proofs.inside.joined.Reads as joined-reads
+use Rattle.search.proofs.links.relink.Reads as relink-reads
+use Rattle.search.proofs.links.unlink.Reads as unlink-reads
+use Rattle.search.proofs.links.wide.Reads as wide-reads
+use Rattle.rows.proofs.inside.keep.Reads as keep-reads
+use Rattle.search.proofs.inside.+search+step.{statement}
+use Rattle.search.proofs.inside.+search+step.Tie.{close}
+
+abbrev μ-search : Measures 9 search-kinds.ps ℕ
+μ-search κs a = 2 * free (marksOf (length (a .0 .now)) (a .1 .1 .1 .1 .1 .1 .1 .1 .1 .0 .now) (a .1 .1 .1 .1 .1 .1 .1 .1 .1 .1 .0 .now)) + 1
+
+abbrev μ-step : Measures 9 step-kinds.ps ℕ
+μ-step κs a = 2 * free (marksOf (length (a .0 .now)) (a .1 .1 .1 .1 .1 .1 .1 .1 .1 .0 .now) (a .1 .1 .1 .1 .1 .1 .1 .1 .1 .1 .0 .now))
+
+abbrev search-at : ℕ → In 9 search-kinds.ps
+search-at t = and 9 search-kinds.ps (is 9 search-kinds.ps μ-search t) search′.Pre
+
+abbrev search-below : ℕ → In 9 search-kinds.ps
+search-below t = and 9 search-kinds.ps (falls 9 search-kinds.ps _<_ μ-search t) search′.Pre
+
+abbrev step-at : ℕ → In 9 step-kinds.ps
+step-at t = and 9 step-kinds.ps (is 9 step-kinds.ps μ-step t) step.Pre
+
+abbrev step-below : ℕ → In 9 step-kinds.ps
+step-below t = and 9 step-kinds.ps (falls 9 step-kinds.ps _<_ μ-step t) step.Pre
+
+abbrev search-Inv-loop : search-lts.InvT-loop
+search-Inv-loop owners targets lengths highs lows x bound high low next₀ prev₀ limit out₀ figures₀ work s₀ head i₀ next prev out figures s i = Going (records owners targets lengths highs lows) limit x bound (addressOf high low) (memory next₀ prev₀ out₀ figures₀ s₀) (memory next prev out figures s) i
+
+abbrev search-μ-loop : search-lts.MeasureT-loop
+search-μ-loop owners targets lengths highs lows x bound high low next₀ prev₀ limit out₀ figures₀ work s₀ head i₀ next prev out figures s i = length owners - i
+
+search-add-head : (t : ℕ) → search-lts.Need-add-head (
+  wide-reads.Asked,
+  wide-reads.Learnt,
+  step-below t,
+  step.Post,
+) (search-at t) search′.Post search-Inv-loop search-μ-loop
+search-add-head t c = omega (arith, c .before .before .pre .1 .0 .numbered .owned .few, c .before .before .pre .1 .1)
+
+search-mul-wide : (t : ℕ) → search-lts.Need-mul-wide (
+  wide-reads.Asked,
+  wide-reads.Learnt,
+  step-below t,
+  step.Post,
+) (search-at t) search′.Post search-Inv-loop search-μ-loop
+search-mul-wide t c = omega (arith, c .before .before .pre .1 .0 .numbered .owned .few, c .before .before .pre .1 .1)
+
+search-element-copy-out-wide : (t : ℕ) → search-lts.Need-element-copy-out-wide (
+  wide-reads.Asked,
+  wide-reads.Learnt,
+  step-below t,
+  step.Post,
+) (search-at t) search′.Post search-Inv-loop search-μ-loop
+search-element-copy-out-wide t c = omega (arith, c .before .before .pre .1 .0 .numbered .owned .few, c .before .before .pre .1 .1)
+
+search-wide-requires : (t : ℕ) → search-lts.Need-wide-requires (
+  wide-reads.Asked,
+  wide-reads.Learnt,
+  step-below t,
+  step.Post,
+) (search-at t) search′.Post search-Inv-loop search-μ-loop
+search-wide-requires t c κs = search needs
+
+search-loop-holds : (t : ℕ) → search-lts.Need-loop-holds (
+  wide-reads.Asked,
+  wide-reads.Learnt,
+  step-below t,
+  step.Post,
+) (search-at t) search′.Post search-Inv-loop search-μ-loop
+search-loop-holds t c =
+    let a = c .before .before .before .before .args in
+    let table = records (a .owners .now) (a .targets .now) (a .lengths .now) (a .highs .now) (a .lows .now) in
+    let start = memory (a .next .now) (a .prev .now) (a .out .now) (a .figures .now) (a .work) in
+    let f = c .before .before .before .before .pre .1 .0 in
+    going-start table (a .limit) (a .x) (a .bound) (addressOf (a .high) (a .low)) start (f .linked) _ (f .places) (omega (arith, f .nodes, f .numbered .owned .few, c .before .before .before .before .pre .1 .1)) (f .room) (c .wide .ensures)
+
+search-same-length : (t : ℕ) → search-lts.Need-same-length (
+  wide-reads.Asked,
+  wide-reads.Learnt,
+  step-below t,
+  step.Post,
+) (search-at t) search′.Post search-Inv-loop search-μ-loop
+search-same-length t c = c .before .before .loop .inv .out
+
+search-returns : (t : ℕ) → search-lts.Need-returns (
+  wide-reads.Asked,
+  wide-reads.Learnt,
+  step-below t,
+  step.Post,
+) (search-at t) search′.Post search-Inv-loop search-μ-loop
+search-returns t c =
+    let a = c .before .before .before .before .before .before .before .args in
+    let table = records (a .owners .now) (a .targets .now) (a .lengths .now) (a .highs .now) (a .lows .now) in
+    let start = memory (a .next .now) (a .prev .now) (a .out .now) (a .figures .now) (a .work) in
+    let f = c .before .before .before .before .before .before .before .pre .1 .0 in
+    let l = c .before .before .loop in
+    let here = memory (l .next) (l .prev) (l .out) (l .figures) (l .s) in
+    going-over table (a .limit) (a .x) (a .bound) (addressOf (a .high) (a .low)) start (f .linked) here (l .i) (l .inv) (c .before .loop-test .taken) (c .if1 .taken)
+
+search-element-copy-out-if2 : (t : ℕ) → search-lts.Need-element-copy-out-if2 (
+  wide-reads.Asked,
+  wide-reads.Learnt,
+  step-below t,
+  step.Post,
+) (search-at t) search′.Post search-Inv-loop search-μ-loop
+search-element-copy-out-if2 t c = omega (arith, c .before .before .before .before .before .before .before .pre .1 .0 .numbered .owned .few, c .before .loop-test .taken)
+
+search-step-requires : (t : ℕ) → search-lts.Need-step-requires (
+  wide-reads.Asked,
+  wide-reads.Learnt,
+  step-below t,
+  step.Post,
+) (search-at t) search′.Post search-Inv-loop search-μ-loop
+search-step-requires t c κs =
+    let a = c .before .before .before .before .before .before .before .before .before .before .before .before .before .args in
+    let table = records (a .owners .now) (a .targets .now) (a .lengths .now) (a .highs .now) (a .lows .now) in
+    let start = memory (a .next .now) (a .prev .now) (a .out .now) (a .figures .now) (a .work) in
+    let f = c .before .before .before .before .before .before .before .before .before .before .before .before .before .pre .1 .0 in
+    let l = c .before .before .before .before .before .before .before .before .loop in
+    let here = memory (l .next) (l .prev) (l .out) (l .figures) (l .s) in
+    let li = c .before .before .before .before .before .before .before .loop-test .taken in
+    let e = same-unused table (a .limit) (a .x) (a .bound) (addressOf (a .high) (a .low)) start (f .linked) here (l .i) (l .inv) li in (
+      omega (arith, c .before .before .before .before .before .before .before .before .before .before .before .before .before .pre .0, ap free e),
+      (
+        going-fit table (a .limit) (a .x) (a .bound) (addressOf (a .high) (a .low)) start (f .linked) here (l .i) (l .inv) li f (address-length (a .high) (a .low)),
+        (
+          li,
+          ap (λ (u : List ℕ). getD u (l .i) 0) e ∙ unmarked table (a .limit) (a .x) (a .bound) (addressOf (a .high) (a .low)) start (f .linked) here (l .i) (l .inv) li,
+          c .before .before .before .before .if2 .taken,
+          c .before .before .before .before .before .before .if1 .left,
+        ),
+      ),
+    )
+
+search-mul-wide-2 : (t : ℕ) → search-lts.Need-mul-wide-2 (
+  wide-reads.Asked,
+  wide-reads.Learnt,
+  step-below t,
+  step.Post,
+) (search-at t) search′.Post search-Inv-loop search-μ-loop
+search-mul-wide-2 t c = omega (arith, c .before .before .before .before .before .before .before .before .before .pre .1 .0 .numbered .owned .few, c .before .before .before .loop-test .taken)
+
+search-element-copy-out-wide-2 : (t : ℕ) → search-lts.Need-element-copy-out-wide-2 (
+  wide-reads.Asked,
+  wide-reads.Learnt,
+  step-below t,
+  step.Post,
+) (search-at t) search′.Post search-Inv-loop search-μ-loop
+search-element-copy-out-wide-2 t c = omega (arith, c .before .before .before .before .before .before .before .before .before .pre .1 .0 .numbered .owned .few, c .before .before .before .loop-test .taken)
+
+search-wide-requires-2 : (t : ℕ) → search-lts.Need-wide-requires-2 (
+  wide-reads.Asked,
+  wide-reads.Learnt,
+  step-below t,
+  step.Post,
+) (search-at t) search′.Post search-Inv-loop search-μ-loop
+search-wide-requires-2 t c κs = search needs
+
+search-loop-less : (t : ℕ) → search-lts.Need-loop-less (
+  wide-reads.Asked,
+  wide-reads.Learnt,
+  step-below t,
+  step.Post,
+) (search-at t) search′.Post search-Inv-loop search-μ-loop
+search-loop-less t c =
+    let a = c .before .before .before .before .before .before .before .before .before .before .before .args in
+    let table = records (a .owners .now) (a .targets .now) (a .lengths .now) (a .highs .now) (a .lows .now) in
+    let start = memory (a .next .now) (a .prev .now) (a .out .now) (a .figures .now) (a .work) in
+    let f = c .before .before .before .before .before .before .before .before .before .before .before .pre .1 .0 in
+    let l = c .before .before .before .before .before .before .loop in
+    let here = memory (l .next) (l .prev) (l .out) (l .figures) (l .s) in
+    let li = c .before .before .before .before .before .loop-test .taken in
+    let e : c .before .before .if2 .next ≡ l .next = ⊎-elim (λ w. w .8 ∙ w .5 .ensures .next) (λ w. w .1) (c .before .before .if2 .came) in
+    let m = further table (a .limit) (a .x) (a .bound) (addressOf (a .high) (a .low)) start (f .linked) here (l .i) (l .inv) li in
+    let r : c .wide2 .result ≡ getD (l .next) (l .i) 0 = c .wide2 .ensures ∙ ap (λ (v : List ℕ). getD v (l .i) 0) e in
+    omega (arith, m, r, li)
+
+search-loop-again : (t : ℕ) → search-lts.Need-loop-again (
+  wide-reads.Asked,
+  wide-reads.Learnt,
+  step-below t,
+  step.Post,
+) (search-at t) search′.Post search-Inv-loop search-μ-loop
+search-loop-again t c =
+    let a = c .before .before .before .before .before .before .before .before .before .before .before .args in
+    let table = records (a .owners .now) (a .targets .now) (a .lengths .now) (a .highs .now) (a .lows .now) in
+    let start = memory (a .next .now) (a .prev .now) (a .out .now) (a .figures .now) (a .work) in
+    let f = c .before .before .before .before .before .before .before .before .before .before .before .pre .1 .0 in
+    let l = c .before .before .before .before .before .before .loop in
+    let here = memory (l .next) (l .prev) (l .out) (l .figures) (l .s) in
+    let li = c .before .before .before .before .before .loop-test .taken in
+    let j = c .before .before .if2 in
+    let there = memory (j .next) (j .prev) (j .out) (j .figures) (j .s) in
+    ⊎-elim
+    (λ w.
+    going-step table (a .limit) (a .x) (a .bound) (addressOf (a .high) (a .low)) start (f .linked) here (l .i) (l .inv) li
+    there (c .wide2 .result) (le-leb (getD (a .lengths .now) (l .i) 0) (a .bound) (w .0 .taken))
+    (done-as here _ there (stepOf table (a .limit) (l .i) (a .bound) (addressOf (a .high) (a .low)) here) (memory-eq (w .8) (w .9) (w .10) (w .11) (w .12)) (w .5 .ensures))
+    (ap length (w .10) ∙ w .5 .kept .1 .1 .1 .1 .1 .1 .1 .1 .1 .1 .1 .1 .0) (c .wide2 .ensures))
+    (λ w.
+    subst (λ (m : Memory). Going table (a .limit) (a .x) (a .bound) (addressOf (a .high) (a .low)) start m (c .wide2 .result)) (sym (memory-eq (w .1) (w .2) (w .3) (w .4) (w .5)))
+    (going-skip table (a .limit) (a .x) (a .bound) (addressOf (a .high) (a .low)) start (f .linked) here (l .i) (l .inv) li (c .wide2 .result) (lt-leb (getD (a .lengths .now) (l .i) 0) (a .bound) (w .0 .left))
+    (c .wide2 .ensures ∙ ap (λ (v : List ℕ). getD v (l .i) 0) (w .1))))
+    (j .came)
+
+search-same-length-2 : (t : ℕ) → search-lts.Need-same-length-2 (
+  wide-reads.Asked,
+  wide-reads.Learnt,
+  step-below t,
+  step.Post,
+) (search-at t) search′.Post search-Inv-loop search-μ-loop
+search-same-length-2 t c = c .before .loop .inv .out
+
+search-returns-2 : (t : ℕ) → search-lts.Need-returns-2 (
+  wide-reads.Asked,
+  wide-reads.Learnt,
+  step-below t,
+  step.Post,
+) (search-at t) search′.Post search-Inv-loop search-μ-loop
+search-returns-2 t c =
+    let a = c .before .before .before .before .before .before .args in
+    let table = records (a .owners .now) (a .targets .now) (a .lengths .now) (a .highs .now) (a .lows .now) in
+    let start = memory (a .next .now) (a .prev .now) (a .out .now) (a .figures .now) (a .work) in
+    let f = c .before .before .before .before .before .before .pre .1 .0 in
+    let l = c .before .loop in
+    let here = memory (l .next) (l .prev) (l .out) (l .figures) (l .s) in
+    going-end table (a .limit) (a .x) (a .bound) (addressOf (a .high) (a .low)) start (f .linked) here (l .i) (l .inv) (c .loop-test .left)
+
+step-element-copy-out-length : (t : ℕ) → step-lts.Need-element-copy-out-length (
+  joined-reads.Asked,
+  joined-reads.Learnt,
+  keep-reads.Asked,
+  keep-reads.Learnt,
+  wide-reads.Asked,
+  wide-reads.Learnt,
+  unlink-reads.Asked,
+  unlink-reads.Learnt,
+  search-below t,
+  search′.Post,
+  relink-reads.Asked,
+  relink-reads.Learnt,
+) (step-at t) step.Post
+step-element-copy-out-length t c = omega (arith, c .before .before .pre .1 .0 .numbered .owned .few, c .before .before .pre .1 .1 .0)
+
+step-joined-requires : (t : ℕ) → step-lts.Need-joined-requires (
+  joined-reads.Asked,
+  joined-reads.Learnt,
+  keep-reads.Asked,
+  keep-reads.Learnt,
+  wide-reads.Asked,
+  wide-reads.Learnt,
+  unlink-reads.Asked,
+  unlink-reads.Learnt,
+  search-below t,
+  search′.Post,
+  relink-reads.Asked,
+  relink-reads.Learnt,
+) (step-at t) step.Post
+step-joined-requires t c κs =
+    let a = c .before .before .before .args in
+    let p = c .before .before .before .pre .1 in
+    (omega (arith, p .0 .numbered .owned .few, p .1 .0), (p .0 .some, p .0 .bounded))
+
+step-add-w : (t : ℕ) → step-lts.Need-add-w (
+  joined-reads.Asked,
+  joined-reads.Learnt,
+  keep-reads.Asked,
+  keep-reads.Learnt,
+  wide-reads.Asked,
+  wide-reads.Learnt,
+  unlink-reads.Asked,
+  unlink-reads.Learnt,
+  search-below t,
+  search′.Post,
+  relink-reads.Asked,
+  relink-reads.Learnt,
+) (step-at t) step.Post
+step-add-w t c = omega (arith, c .before .before .before .before .pre .1 .0 .limited, c .before .before .before .before .pre .1 .1 .3)
+
+step-keep-requires : (t : ℕ) → step-lts.Need-keep-requires (
+  joined-reads.Asked,
+  joined-reads.Learnt,
+  keep-reads.Asked,
+  keep-reads.Learnt,
+  wide-reads.Asked,
+  wide-reads.Learnt,
+  unlink-reads.Asked,
+  unlink-reads.Learnt,
+  search-below t,
+  search′.Post,
+  relink-reads.Asked,
+  relink-reads.Learnt,
+) (step-at t) step.Post
+step-keep-requires t c κs =
+    let f = c .before .before .before .before .before .before .before .pre .1 .0 in
+    (f .places, f .room, f .ordered)
+
+step-same-length : (t : ℕ) → step-lts.Need-same-length (
+  joined-reads.Asked,
+  joined-reads.Learnt,
+  keep-reads.Asked,
+  keep-reads.Learnt,
+  wide-reads.Asked,
+  wide-reads.Learnt,
+  unlink-reads.Asked,
+  unlink-reads.Learnt,
+  search-below t,
+  search′.Post,
+  relink-reads.Asked,
+  relink-reads.Learnt,
+) (step-at t) step.Post
+step-same-length t c = search needs
+
+step-returns : (t : ℕ) → step-lts.Need-returns (
+  joined-reads.Asked,
+  joined-reads.Learnt,
+  keep-reads.Asked,
+  keep-reads.Learnt,
+  wide-reads.Asked,
+  wide-reads.Learnt,
+  unlink-reads.Asked,
+  unlink-reads.Learnt,
+  search-below t,
+  search′.Post,
+  relink-reads.Asked,
+  relink-reads.Learnt,
+) (step-at t) step.Post
+step-returns t c =
+    let a = c .before .before .before .before .before .before .before .before .before .before .args in
+    let table = records (a .owners .now) (a .targets .now) (a .lengths .now) (a .highs .now) (a .lows .now) in
+    let start = memory (a .next .now) (a .prev .now) (a .out .now) (a .figures .now) (a .work) in
+    let p = c .before .before .before .before .before .before .before .before .before .before .pre .1 in
+    let k = c .before .before .keep .ensures in
+    done-finished table start (a .bound) (a .limit) (a .i) (p .0) (p .1 .0) (p .1 .1) (addressOf (a .high) (a .low)) _ _ _ (p .1 .3) (c .before .before .before .before .before .if1 .taken) (c .before .before .before .before .before .before .joined .ensures) (k .0) (k .1) (k .2)
+
+step-mul-wide : (t : ℕ) → step-lts.Need-mul-wide (
+  joined-reads.Asked,
+  joined-reads.Learnt,
+  keep-reads.Asked,
+  keep-reads.Learnt,
+  wide-reads.Asked,
+  wide-reads.Learnt,
+  unlink-reads.Asked,
+  unlink-reads.Learnt,
+  search-below t,
+  search′.Post,
+  relink-reads.Asked,
+  relink-reads.Learnt,
+) (step-at t) step.Post
+step-mul-wide t c = omega (arith, c .before .before .before .before .before .pre .1 .0 .numbered .owned .few, c .before .before .before .before .before .pre .1 .1 .0)
+
+step-element-copy-out-wide : (t : ℕ) → step-lts.Need-element-copy-out-wide (
+  joined-reads.Asked,
+  joined-reads.Learnt,
+  keep-reads.Asked,
+  keep-reads.Learnt,
+  wide-reads.Asked,
+  wide-reads.Learnt,
+  unlink-reads.Asked,
+  unlink-reads.Learnt,
+  search-below t,
+  search′.Post,
+  relink-reads.Asked,
+  relink-reads.Learnt,
+) (step-at t) step.Post
+step-element-copy-out-wide t c = omega (arith, c .before .before .before .before .before .pre .1 .0 .numbered .owned .few, c .before .before .before .before .before .pre .1 .1 .0)
+
+step-wide-requires : (t : ℕ) → step-lts.Need-wide-requires (
+  joined-reads.Asked,
+  joined-reads.Learnt,
+  keep-reads.Asked,
+  keep-reads.Learnt,
+  wide-reads.Asked,
+  wide-reads.Learnt,
+  unlink-reads.Asked,
+  unlink-reads.Learnt,
+  search-below t,
+  search′.Post,
+  relink-reads.Asked,
+  relink-reads.Learnt,
+) (step-at t) step.Post
+step-wide-requires t c κs = search needs
+
+step-mul-wide-2 : (t : ℕ) → step-lts.Need-mul-wide-2 (
+  joined-reads.Asked,
+  joined-reads.Learnt,
+  keep-reads.Asked,
+  keep-reads.Learnt,
+  wide-reads.Asked,
+  wide-reads.Learnt,
+  unlink-reads.Asked,
+  unlink-reads.Learnt,
+  search-below t,
+  search′.Post,
+  relink-reads.Asked,
+  relink-reads.Learnt,
+) (step-at t) step.Post
+step-mul-wide-2 t c = omega (arith, c .before .before .before .before .before .before .before .pre .1 .0 .numbered .owned .few, c .before .before .before .before .before .before .before .pre .1 .1 .0)
+
+step-element-copy-out-wide-2 : (t : ℕ) → step-lts.Need-element-copy-out-wide-2 (
+  joined-reads.Asked,
+  joined-reads.Learnt,
+  keep-reads.Asked,
+  keep-reads.Learnt,
+  wide-reads.Asked,
+  wide-reads.Learnt,
+  unlink-reads.Asked,
+  unlink-reads.Learnt,
+  search-below t,
+  search′.Post,
+  relink-reads.Asked,
+  relink-reads.Learnt,
+) (step-at t) step.Post
+step-element-copy-out-wide-2 t c = omega (arith, c .before .before .before .before .before .before .before .pre .1 .0 .numbered .owned .few, c .before .before .before .before .before .before .before .pre .1 .1 .0)
+
+step-wide-requires-2 : (t : ℕ) → step-lts.Need-wide-requires-2 (
+  joined-reads.Asked,
+  joined-reads.Learnt,
+  keep-reads.Asked,
+  keep-reads.Learnt,
+  wide-reads.Asked,
+  wide-reads.Learnt,
+  unlink-reads.Asked,
+  unlink-reads.Learnt,
+  search-below t,
+  search′.Post,
+  relink-reads.Asked,
+  relink-reads.Learnt,
+) (step-at t) step.Post
+step-wide-requires-2 t c κs = search needs
+
+step-mul-wide-3 : (t : ℕ) → step-lts.Need-mul-wide-3 (
+  joined-reads.Asked,
+  joined-reads.Learnt,
+  keep-reads.Asked,
+  keep-reads.Learnt,
+  wide-reads.Asked,
+  wide-reads.Learnt,
+  unlink-reads.Asked,
+  unlink-reads.Learnt,
+  search-below t,
+  search′.Post,
+  relink-reads.Asked,
+  relink-reads.Learnt,
+) (step-at t) step.Post
+step-mul-wide-3 t c = omega (arith, c .before .before .before .before .before .before .before .before .before .pre .1 .0 .numbered .owned .few, c .before .before .before .before .before .before .before .before .before .pre .1 .1 .0)
+
+step-element-copy-out-wide-3 : (t : ℕ) → step-lts.Need-element-copy-out-wide-3 (
+  joined-reads.Asked,
+  joined-reads.Learnt,
+  keep-reads.Asked,
+  keep-reads.Learnt,
+  wide-reads.Asked,
+  wide-reads.Learnt,
+  unlink-reads.Asked,
+  unlink-reads.Learnt,
+  search-below t,
+  search′.Post,
+  relink-reads.Asked,
+  relink-reads.Learnt,
+) (step-at t) step.Post
+step-element-copy-out-wide-3 t c = omega (arith, c .before .before .before .before .before .before .before .before .before .pre .1 .0 .numbered .owned .few, c .before .before .before .before .before .before .before .before .before .pre .1 .1 .0)
+
+step-wide-requires-3 : (t : ℕ) → step-lts.Need-wide-requires-3 (
+  joined-reads.Asked,
+  joined-reads.Learnt,
+  keep-reads.Asked,
+  keep-reads.Learnt,
+  wide-reads.Asked,
+  wide-reads.Learnt,
+  unlink-reads.Asked,
+  unlink-reads.Learnt,
+  search-below t,
+  search′.Post,
+  relink-reads.Asked,
+  relink-reads.Learnt,
+) (step-at t) step.Post
+step-wide-requires-3 t c κs = search needs
+
+step-unlink-requires : (t : ℕ) → step-lts.Need-unlink-requires (
+  joined-reads.Asked,
+  joined-reads.Learnt,
+  keep-reads.Asked,
+  keep-reads.Learnt,
+  wide-reads.Asked,
+  wide-reads.Learnt,
+  unlink-reads.Asked,
+  unlink-reads.Learnt,
+  search-below t,
+  search′.Post,
+  relink-reads.Asked,
+  relink-reads.Learnt,
+) (step-at t) step.Post
+step-unlink-requires t c κs =
+    let a = c .before .before .before .before .before .before .before .before .before .before .before .before .before .args in
+    let table = records (a .owners .now) (a .targets .now) (a .lengths .now) (a .highs .now) (a .lows .now) in
+    let start = memory (a .next .now) (a .prev .now) (a .out .now) (a .figures .now) (a .work) in
+    let p = c .before .before .before .before .before .before .before .before .before .before .before .before .before .pre .1 in
+    (p .0 .nodes, p .0 .linked .level ∙ p .0 .nodes, p-node table start (a .bound) (a .limit) (a .i) (p .0) (p .1 .0) (p .1 .1) (c .before .before .before .before .wide2 .result) (c .before .before .wide3 .result) (c .before .before .before .before .wide2 .ensures) (c .before .before .wide3 .ensures), q-node table start (a .bound) (a .limit) (a .i) (p .0) (p .1 .0) (p .1 .1) (c .before .before .before .before .wide2 .result) (c .before .before .wide3 .result) (c .before .before .before .before .wide2 .ensures) (c .before .before .wide3 .ensures))
+
+step-add-head : (t : ℕ) → step-lts.Need-add-head (
+  joined-reads.Asked,
+  joined-reads.Learnt,
+  keep-reads.Asked,
+  keep-reads.Learnt,
+  wide-reads.Asked,
+  wide-reads.Learnt,
+  unlink-reads.Asked,
+  unlink-reads.Learnt,
+  search-below t,
+  search′.Post,
+  relink-reads.Asked,
+  relink-reads.Learnt,
+) (step-at t) step.Post
+step-add-head t c =
+    let a = c .before .before .before .before .before .before .before .before .before .before .before .before .before .before .args in
+    let p = c .before .before .before .before .before .before .before .before .before .before .before .before .before .before .pre .1 in
+    omega (arith, c .before .before .before .before .before .before .before .wide .ensures, p .0 .numbered .owned .few, p .0 .numbered .target (a .i) (p .1 .0) (omega (arith, c .before .before .before .before .before .before .before .before .before .if1 .left)))
+
+step-mul-wide-4 : (t : ℕ) → step-lts.Need-mul-wide-4 (
+  joined-reads.Asked,
+  joined-reads.Learnt,
+  keep-reads.Asked,
+  keep-reads.Learnt,
+  wide-reads.Asked,
+  wide-reads.Learnt,
+  unlink-reads.Asked,
+  unlink-reads.Learnt,
+  search-below t,
+  search′.Post,
+  relink-reads.Asked,
+  relink-reads.Learnt,
+) (step-at t) step.Post
+step-mul-wide-4 t c =
+    let a = c .before .before .before .before .before .before .before .before .before .before .before .before .before .before .args in
+    let p = c .before .before .before .before .before .before .before .before .before .before .before .before .before .before .pre .1 in
+    omega (arith, c .before .before .before .before .before .before .before .wide .ensures, p .0 .numbered .owned .few, p .0 .numbered .target (a .i) (p .1 .0) (omega (arith, c .before .before .before .before .before .before .before .before .before .if1 .left)))
+
+step-element-copy-out-wide-4 : (t : ℕ) → step-lts.Need-element-copy-out-wide-4 (
+  joined-reads.Asked,
+  joined-reads.Learnt,
+  keep-reads.Asked,
+  keep-reads.Learnt,
+  wide-reads.Asked,
+  wide-reads.Learnt,
+  unlink-reads.Asked,
+  unlink-reads.Learnt,
+  search-below t,
+  search′.Post,
+  relink-reads.Asked,
+  relink-reads.Learnt,
+) (step-at t) step.Post
+step-element-copy-out-wide-4 t c =
+    let a = c .before .before .before .before .before .before .before .before .before .before .before .before .before .before .args in
+    let p = c .before .before .before .before .before .before .before .before .before .before .before .before .before .before .pre .1 in
+    omega (arith, c .before .before .before .before .before .before .before .wide .ensures, p .0 .numbered .owned .few, p .0 .numbered .target (a .i) (p .1 .0) (omega (arith, c .before .before .before .before .before .before .before .before .before .if1 .left)))
+
+step-wide-requires-4 : (t : ℕ) → step-lts.Need-wide-requires-4 (
+  joined-reads.Asked,
+  joined-reads.Learnt,
+  keep-reads.Asked,
+  keep-reads.Learnt,
+  wide-reads.Asked,
+  wide-reads.Learnt,
+  unlink-reads.Asked,
+  unlink-reads.Learnt,
+  search-below t,
+  search′.Post,
+  relink-reads.Asked,
+  relink-reads.Learnt,
+) (step-at t) step.Post
+step-wide-requires-4 t c κs = search needs
+
+step-search-requires : (t : ℕ) → step-lts.Need-search-requires (
+  joined-reads.Asked,
+  joined-reads.Learnt,
+  keep-reads.Asked,
+  keep-reads.Learnt,
+  wide-reads.Asked,
+  wide-reads.Learnt,
+  unlink-reads.Asked,
+  unlink-reads.Learnt,
+  search-below t,
+  search′.Post,
+  relink-reads.Asked,
+  relink-reads.Learnt,
+) (step-at t) step.Post
+step-search-requires t c κs =
+    let a = c .before .before .before .before .before .before .before .before .before .before .before .before .before .before .before .before .before .before .before .before .before .args in
+    let table = records (a .owners .now) (a .targets .now) (a .lengths .now) (a .highs .now) (a .lows .now) in
+    let start = memory (a .next .now) (a .prev .now) (a .out .now) (a .figures .now) (a .work) in
+    let p = c .before .before .before .before .before .before .before .before .before .before .before .before .before .before .before .before .before .before .before .before .before .pre .1 in
+    let o : 0 < getD (a .lengths .now) (a .i) 0 = omega (arith, c .before .before .before .before .before .before .before .before .before .before .before .before .before .before .before .before .if1 .left) in (
+      omega (arith, c .before .before .before .before .before .before .before .before .before .before .before .before .before .before .before .before .before .before .before .before .before .pre .0, fewer table start (a .bound) (a .limit) (a .i) (p .0) (p .1 .0) (p .1 .1) (c .before .before .before .before .before .before .before .before .before .before .before .before .wide2 .result) (c .before .before .before .before .before .before .before .before .before .before .wide3 .result) (c .before .before .before .before .before .before .before .before .before .before .before .before .wide2 .ensures) (c .before .before .before .before .before .before .before .before .before .before .wide3 .ensures) (c .before .before .before .before .before .before .before .unlink .last .1 .1 .0) (c .before .before .before .before .before .before .before .unlink .last .1 .1 .1 .0) (c .before .before .before .before .before .before .before .unlink .ensures .0) (c .before .before .before .before .before .before .before .unlink .ensures .1)),
+      (
+        fit-without table start (a .bound) (a .limit) (a .i) (p .0) (p .1 .0) (p .1 .1) (c .before .before .before .before .before .before .before .before .before .before .before .before .wide2 .result) (c .before .before .before .before .before .before .before .before .before .before .wide3 .result) (c .before .before .before .before .before .before .before .before .before .before .before .before .wide2 .ensures) (c .before .before .before .before .before .before .before .before .before .before .wide3 .ensures) (c .before .before .before .before .before .before .before .unlink .last .1 .1 .0) (c .before .before .before .before .before .before .before .unlink .last .1 .1 .1 .0) (c .before .before .before .before .before .before .before .unlink .ensures .0) (c .before .before .before .before .before .before .before .unlink .ensures .1) (getD (a .lengths .now) (a .i) 0) o (p .1 .2),
+        omega (arith, c .before .before .before .before .before .before .before .before .before .before .before .before .before .before .wide .ensures, p .0 .numbered .owned .few, p .0 .numbered .target (a .i) (p .1 .0) (omega (arith, c .before .before .before .before .before .before .before .before .before .before .before .before .before .before .before .before .if1 .left))),
+      ),
+    )
+
+-- the search from the record, or nothing where its target has no unused record: the links are as it found them
+step-left : (t : ℕ) (c : step-lts.Joined2 (
+  joined-reads.Asked,
+  joined-reads.Learnt,
+  keep-reads.Asked,
+  keep-reads.Learnt,
+  wide-reads.Asked,
+  wide-reads.Learnt,
+  unlink-reads.Asked,
+  unlink-reads.Learnt,
+  search-below t,
+  search′.Post,
+  relink-reads.Asked,
+  relink-reads.Learnt,
+) (step-at t) step.Post) → (
+    let a = c .before .before .before .before .before .before .before .before .before .before .before .before .before .before .before .before .before .args in
+    let table = records (a .owners .now) (a .targets .now) (a .lengths .now) (a .highs .now) (a .lows .now) in
+    let start = memory (a .next .now) (a .prev .now) (a .out .now) (a .figures .now) (a .work) in
+    let p = c .before .before .before .before .before .before .before .before .before .before .before .before .before .before .before .before .before .pre .1 in
+    let W = without table start (a .bound) (a .limit) (a .i) (p .0) (p .1 .0) (p .1 .1) (c .before .before .before .before .before .before .before .before .wide2 .result) (c .before .before .before .before .before .before .wide3 .result) (c .before .before .before .before .before .before .before .before .wide2 .ensures) (c .before .before .before .before .before .before .wide3 .ensures) (c .before .before .before .unlink .last .1 .1 .0) (c .before .before .before .unlink .last .1 .1 .1 .0) (c .before .before .before .unlink .ensures .0) (c .before .before .before .unlink .ensures .1) in
+    Done W (memory (c .if2 .next) (c .if2 .prev) (c .if2 .out) (c .if2 .figures) (c .if2 .r))
+    (searchOf table (a .limit) (c .before .before .before .before .before .before .before .before .before .before .wide .result) (getD (a .lengths .now) (a .i) 0) (addressOf (c .before .before .before .before .before .before .before .before .before .before .before .before .before .joined .result .high) (c .before .before .before .before .before .before .before .before .before .before .before .before .before .joined .result .low)) W))
+step-left t c =
+    let a = c .before .before .before .before .before .before .before .before .before .before .before .before .before .before .before .before .before .args in
+    let table = records (a .owners .now) (a .targets .now) (a .lengths .now) (a .highs .now) (a .lows .now) in
+    let start = memory (a .next .now) (a .prev .now) (a .out .now) (a .figures .now) (a .work) in
+    let p = c .before .before .before .before .before .before .before .before .before .before .before .before .before .before .before .before .before .pre .1 in
+    let o : 0 < getD (a .lengths .now) (a .i) 0 = omega (arith, c .before .before .before .before .before .before .before .before .before .before .before .before .if1 .left) in
+    let j = c .if2 in
+    let m′ = memory (j .next) (j .prev) (j .out) (j .figures) (j .r) in
+    let v = addressOf (c .before .before .before .before .before .before .before .before .before .before .before .before .before .joined .result .high) (c .before .before .before .before .before .before .before .before .before .before .before .before .before .joined .result .low) in
+    let W = without table start (a .bound) (a .limit) (a .i) (p .0) (p .1 .0) (p .1 .1) (c .before .before .before .before .before .before .before .before .wide2 .result) (c .before .before .before .before .before .before .wide3 .result) (c .before .before .before .before .before .before .before .before .wide2 .ensures) (c .before .before .before .before .before .before .wide3 .ensures) (c .before .before .before .unlink .last .1 .1 .0) (c .before .before .before .unlink .last .1 .1 .1 .0) (c .before .before .before .unlink .ensures .0) (c .before .before .before .unlink .ensures .1) in
+    let S = searchOf table (a .limit) (c .before .before .before .before .before .before .before .before .before .before .wide .result) (getD (a .lengths .now) (a .i) 0) v W in
+    ⊎-elim
+    (λ w. done-as W _ m′ S (memory-eq (w .8) (w .9) (w .10) (w .11) (w .12)) (w .5 .ensures))
+    (λ w. done-as W W m′ S (memory-eq (w .1) (w .2) (w .3) (w .4) (w .5))
+    (nothing table start (a .bound) (a .limit) (a .i) (p .0) (p .1 .0) (p .1 .1) (c .before .before .before .before .before .before .before .before .wide2 .result) (c .before .before .before .before .before .before .wide3 .result) (c .before .before .before .before .before .before .before .before .wide2 .ensures) (c .before .before .before .before .before .before .wide3 .ensures) (c .before .before .before .unlink .last .1 .1 .0) (c .before .before .before .unlink .last .1 .1 .1 .0) (c .before .before .before .unlink .ensures .0) (c .before .before .before .unlink .ensures .1) (c .before .before .before .before .before .before .before .before .before .before .wide .result) (getD (a .lengths .now) (a .i) 0) v o (p .1 .2) (omega (arith, c .before .before .before .before .before .before .before .before .before .before .wide .ensures, p .0 .numbered .owned .few, p .0 .numbered .target (a .i) (p .1 .0) (omega (arith, c .before .before .before .before .before .before .before .before .before .before .before .before .if1 .left)))) (omega (arith, c .before .wide4 .ensures, w .0 .left))))
+    (j .came)
+
+step-relink-requires : (t : ℕ) → step-lts.Need-relink-requires (
+  joined-reads.Asked,
+  joined-reads.Learnt,
+  keep-reads.Asked,
+  keep-reads.Learnt,
+  wide-reads.Asked,
+  wide-reads.Learnt,
+  unlink-reads.Asked,
+  unlink-reads.Learnt,
+  search-below t,
+  search′.Post,
+  relink-reads.Asked,
+  relink-reads.Learnt,
+) (step-at t) step.Post
+step-relink-requires t c κs =
+    let a = c .before .before .before .before .before .before .before .before .before .before .before .before .before .before .before .before .before .before .before .args in
+    let table = records (a .owners .now) (a .targets .now) (a .lengths .now) (a .highs .now) (a .lows .now) in
+    let start = memory (a .next .now) (a .prev .now) (a .out .now) (a .figures .now) (a .work) in
+    let p = c .before .before .before .before .before .before .before .before .before .before .before .before .before .before .before .before .before .before .before .pre .1 in
+    let o : 0 < getD (a .lengths .now) (a .i) 0 = omega (arith, c .before .before .before .before .before .before .before .before .before .before .before .before .before .before .if1 .left) in
+    let j = c .before .before .if2 in
+    let m′ = memory (j .next) (j .prev) (j .out) (j .figures) (j .r) in
+    let v = addressOf (c .before .before .before .before .before .before .before .before .before .before .before .before .before .before .before .joined .result .high) (c .before .before .before .before .before .before .before .before .before .before .before .before .before .before .before .joined .result .low) in
+    let W = without table start (a .bound) (a .limit) (a .i) (p .0) (p .1 .0) (p .1 .1) (c .before .before .before .before .before .before .before .before .before .before .wide2 .result) (c .before .before .before .before .before .before .before .before .wide3 .result) (c .before .before .before .before .before .before .before .before .before .before .wide2 .ensures) (c .before .before .before .before .before .before .before .before .wide3 .ensures) (c .before .before .before .before .before .unlink .last .1 .1 .0) (c .before .before .before .before .before .unlink .last .1 .1 .1 .0) (c .before .before .before .before .before .unlink .ensures .0) (c .before .before .before .before .before .unlink .ensures .1) in
+    let S = searchOf table (a .limit) (c .before .before .before .before .before .before .before .before .before .before .before .before .wide .result) (getD (a .lengths .now) (a .i) 0) v W in
+    let d = step-left t (c .before .before) in
+    let g = still-long table start (a .bound) (a .limit) (a .i) (p .0) (p .1 .0) (p .1 .1) (c .before .before .before .before .before .before .before .before .before .before .wide2 .result) (c .before .before .before .before .before .before .before .before .wide3 .result) (c .before .before .before .before .before .before .before .before .before .before .wide2 .ensures) (c .before .before .before .before .before .before .before .before .wide3 .ensures) (c .before .before .before .before .before .unlink .last .1 .1 .0) (c .before .before .before .before .before .unlink .last .1 .1 .1 .0) (c .before .before .before .before .before .unlink .ensures .0) (c .before .before .before .before .before .unlink .ensures .1) m′ S d in
+    (g .0, g .1, p-node table start (a .bound) (a .limit) (a .i) (p .0) (p .1 .0) (p .1 .1) (c .before .before .before .before .before .before .before .before .before .before .wide2 .result) (c .before .before .before .before .before .before .before .before .wide3 .result) (c .before .before .before .before .before .before .before .before .before .before .wide2 .ensures) (c .before .before .before .before .before .before .before .before .wide3 .ensures), q-node table start (a .bound) (a .limit) (a .i) (p .0) (p .1 .0) (p .1 .1) (c .before .before .before .before .before .before .before .before .before .before .wide2 .result) (c .before .before .before .before .before .before .before .before .wide3 .result) (c .before .before .before .before .before .before .before .before .before .before .wide2 .ensures) (c .before .before .before .before .before .before .before .before .wide3 .ensures), omega (arith, p .0 .numbered .owned .few, p .1 .0))
+
+step-same-length-2 : (t : ℕ) → step-lts.Need-same-length-2 (
+  joined-reads.Asked,
+  joined-reads.Learnt,
+  keep-reads.Asked,
+  keep-reads.Learnt,
+  wide-reads.Asked,
+  wide-reads.Learnt,
+  unlink-reads.Asked,
+  unlink-reads.Learnt,
+  search-below t,
+  search′.Post,
+  relink-reads.Asked,
+  relink-reads.Learnt,
+) (step-at t) step.Post
+step-same-length-2 t c = ⊎-elim (λ w. ap length (w .10) ∙ w .5 .kept .1 .1 .1 .1 .1 .1 .1 .1 .1 .1 .1 .1 .0) (λ w. ap length (w .3)) (c .before .before .before .if2 .came)
+
+step-returns-2 : (t : ℕ) → step-lts.Need-returns-2 (
+  joined-reads.Asked,
+  joined-reads.Learnt,
+  keep-reads.Asked,
+  keep-reads.Learnt,
+  wide-reads.Asked,
+  wide-reads.Learnt,
+  unlink-reads.Asked,
+  unlink-reads.Learnt,
+  search-below t,
+  search′.Post,
+  relink-reads.Asked,
+  relink-reads.Learnt,
+) (step-at t) step.Post
+step-returns-2 t c =
+    let a = c .before .before .before .before .before .before .before .before .before .before .before .before .before .before .before .before .before .before .before .before .args in
+    let table = records (a .owners .now) (a .targets .now) (a .lengths .now) (a .highs .now) (a .lows .now) in
+    let start = memory (a .next .now) (a .prev .now) (a .out .now) (a .figures .now) (a .work) in
+    let p = c .before .before .before .before .before .before .before .before .before .before .before .before .before .before .before .before .before .before .before .before .pre .1 in
+    let o : 0 < getD (a .lengths .now) (a .i) 0 = omega (arith, c .before .before .before .before .before .before .before .before .before .before .before .before .before .before .before .if1 .left) in
+    let j = c .before .before .before .if2 in
+    let m′ = memory (j .next) (j .prev) (j .out) (j .figures) (j .r) in
+    let v = addressOf (c .before .before .before .before .before .before .before .before .before .before .before .before .before .before .before .before .joined .result .high) (c .before .before .before .before .before .before .before .before .before .before .before .before .before .before .before .before .joined .result .low) in
+    let W = without table start (a .bound) (a .limit) (a .i) (p .0) (p .1 .0) (p .1 .1) (c .before .before .before .before .before .before .before .before .before .before .before .wide2 .result) (c .before .before .before .before .before .before .before .before .before .wide3 .result) (c .before .before .before .before .before .before .before .before .before .before .before .wide2 .ensures) (c .before .before .before .before .before .before .before .before .before .wide3 .ensures) (c .before .before .before .before .before .before .unlink .last .1 .1 .0) (c .before .before .before .before .before .before .unlink .last .1 .1 .1 .0) (c .before .before .before .before .before .before .unlink .ensures .0) (c .before .before .before .before .before .before .unlink .ensures .1) in
+    let S = searchOf table (a .limit) (c .before .before .before .before .before .before .before .before .before .before .before .before .before .wide .result) (getD (a .lengths .now) (a .i) 0) v W in
+    let d = step-left t (c .before .before .before) in
+    done-unfinished table start (a .bound) (a .limit) (a .i) (p .0) (p .1 .0) (p .1 .1) (c .before .before .before .before .before .before .before .before .before .before .before .wide2 .result) (c .before .before .before .before .before .before .before .before .before .wide3 .result) (c .before .before .before .before .before .before .before .before .before .before .before .wide2 .ensures) (c .before .before .before .before .before .before .before .before .before .wide3 .ensures) (c .before .before .before .before .before .before .unlink .last .1 .1 .0) (c .before .before .before .before .before .before .unlink .last .1 .1 .1 .0) (c .before .before .before .before .before .before .unlink .ensures .0) (c .before .before .before .before .before .before .unlink .ensures .1) m′ S d (addressOf (a .high) (a .low)) v (c .before .before .before .before .before .before .before .before .before .before .before .before .before .wide .result) (p .1 .3) o (c .before .before .before .before .before .before .before .before .before .before .before .before .before .wide .ensures) (c .before .before .before .before .before .before .before .before .before .before .before .before .before .before .before .before .joined .ensures) refl
+    (c .relink .last .1 .1 .1 .0) (c .relink .last .1 .1 .1 .1 .0) (c .relink .ensures .0) (c .relink .ensures .1)
+
+pub +search+step-spec : {M : Type 1} → statement M
++search+step-spec = close μ-search μ-step (λ t. search-lts.spec (
+  wide-reads.Asked,
+  wide-reads.Learnt,
+  step-below t,
+  step.Post,
+)
+    (search-at t)
+    search′.Post
+    search-Inv-loop
+    search-μ-loop
+    (search-add-head t)
+    (search-mul-wide t)
+    (search-element-copy-out-wide t)
+    (search-wide-requires t)
+    (search-loop-holds t)
+    (search-same-length t)
+    (search-returns t)
+    (search-element-copy-out-if2 t)
+    (search-step-requires t)
+    (search-mul-wide-2 t)
+    (search-element-copy-out-wide-2 t)
+    (search-wide-requires-2 t)
+    (search-loop-less t)
+    (search-loop-again t)
+    (search-same-length-2 t)
+    (search-returns-2 t))
+    λ t. step-lts.spec (
+      joined-reads.Asked,
+      joined-reads.Learnt,
+      keep-reads.Asked,
+      keep-reads.Learnt,
+      wide-reads.Asked,
+      wide-reads.Learnt,
+      unlink-reads.Asked,
+      unlink-reads.Learnt,
+      search-below t,
+      search′.Post,
+      relink-reads.Asked,
+      relink-reads.Learnt,
+    )
+    (step-at t)
+    step.Post
+    (step-element-copy-out-length t)
+    (step-joined-requires t)
+    (step-add-w t)
+    (step-keep-requires t)
+    (step-same-length t)
+    (step-returns t)
+    (step-mul-wide t)
+    (step-element-copy-out-wide t)
+    (step-wide-requires t)
+    (step-mul-wide-2 t)
+    (step-element-copy-out-wide-2 t)
+    (step-wide-requires-2 t)
+    (step-mul-wide-3 t)
+    (step-element-copy-out-wide-3 t)
+    (step-wide-requires-3 t)
+    (step-unlink-requires t)
+    (step-add-head t)
+    (step-mul-wide-4 t)
+    (step-element-copy-out-wide-4 t)
+    (step-wide-requires-4 t)
+    (step-search-requires t)
+    (step-relink-requires t)
+    (step-same-length-2 t)
+    (step-returns-2 t)

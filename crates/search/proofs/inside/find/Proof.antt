@@ -1,0 +1,117 @@
+-- `search::inside::find` meets its contract: the search begins with every record in its list, and what it leaves is the answer. Assumes nothing.
+use Prim.Native.Nat.{_*_, _/_}
+use mathlib.Core.Path.{_≡_, ap, _∙_}
+use native.Mathlib.Omega.{arith}
+use lib.ListN.{length}
+use borrow.Author.Tests.{eq-eqb, ne-eqb}
+use borrow.Author.Needs.{needs}
+use Rattle.octets.specs.Octets.{blank}
+use Rattle.chains.specs.Graph.{Sound}
+use Rattle.search.specs.Search.{Records, records, graphOf, searched}
+use Rattle.search.specs.Links.{memory, stateOf}
+use Rattle.search.specs.Answers.{outputOf}
+use Rattle.search.proofs.AnswerLaws.{start, numbered-sound, fit-first, state-first, found-over, found-full, found-answer, found-output, found-few, refused-answer, refused-output}
+use Rattle.search.proofs.inside.find.Statement.{statement}
+use Rattle.search.proofs.inside.find.Tie as tie
+
+-- the records, and the state that the search leaves
+abbrev given : tie.Start → Records
+given c = records (c .args .owners .now) (c .args .targets .now) (c .args .lengths .now) (c .args .highs .now) (c .args .lows .now)
+
+sound : (c : tie.Start) → Sound (graphOf (given c))
+sound c = numbered-sound (given c) (c .pre .0 .0)
+
+ran : (c : tie.After-search) → stateOf (memory (c .search .last .1 .1 .1 .1 .1 .1 .1 .1 .1 .0) (c .search .last .1 .1 .1 .1 .1 .1 .1 .1 .1 .1 .0) (c .search .last .1 .1 .1 .1 .1 .1 .1 .1 .1 .1 .1 .1 .0) (c .search .last .1 .1 .1 .1 .1 .1 .1 .1 .1 .1 .1 .1 .1 .0) (c .search .result))
+    ≡ searched (graphOf (given (c .before .before .before .before .before .before .before .before .before .before))) (c .before .before .before .before .before .before .before .before .before .before .args .limit) (blank (length (c .before .before .before .before .before .before .before .before .before .before .args .owners .now))) (c .before .before .before .before .before .before .before .before .before .before .args .x) 128 (blank 16) (0, start (length (c .before .before .before .before .before .before .before .before .before .before .args .out .now) / 16))
+ran c =
+    let p = c .before .before .before .before .before .before .before .before .before .before .pre in
+    state-first (given (c .before .before .before .before .before .before .before .before .before .before)) (p .0 .0) (c .before .before .before .before .before .link .last .1 .0) (c .before .before .before .before .before .link .last .1 .1 .0) (c .before .before .before .before .before .before .before .before .before .before .args .out .now) (c .before .before .before .before .before .before .before .before .before .before .args .limit) (c .before .before .before .before .before .link .ensures) (p .1 .0) (p .1 .1) (c .before .before .before .before .before .before .before .before .before .before .args .x)
+    (memory (c .search .last .1 .1 .1 .1 .1 .1 .1 .1 .1 .0) (c .search .last .1 .1 .1 .1 .1 .1 .1 .1 .1 .1 .0) (c .search .last .1 .1 .1 .1 .1 .1 .1 .1 .1 .1 .1 .1 .0) (c .search .last .1 .1 .1 .1 .1 .1 .1 .1 .1 .1 .1 .1 .1 .0) (c .search .result)) (c .search .ensures)
+
+link-requires : tie.Need-link-requires
+link-requires c κs = search needs
+
+search-requires : tie.Need-search-requires
+search-requires c κs =
+    let p = c .before .before .before .before .before .before .before .before .before .pre in
+    (fit-first (given (c .before .before .before .before .before .before .before .before .before)) (p .0 .0) (c .before .before .before .before .link .last .1 .0) (c .before .before .before .before .link .last .1 .1 .0) (c .before .before .before .before .before .before .before .before .before .args .out .now) (c .before .before .before .before .before .before .before .before .before .args .limit) (c .before .before .before .before .link .ensures) (p .1 .0) (p .1 .1) (omega arith), p .0 .1)
+
+array-read-count : tie.Need-array-read-count
+array-read-count c = search needs
+
+array-read-full : tie.Need-array-read-full
+array-read-full c = search needs
+
+clear-requires : tie.Need-clear-requires
+clear-requires c κs = search needs
+
+refused-requires : tie.Need-refused-requires
+refused-requires c κs = search needs
+
+same-length : tie.Need-same-length
+same-length c = search needs
+
+returns : tie.Need-returns
+returns c =
+    let a = c .before .before .before .before .before .before .before .before .before .before .before .before .before .before .before .before .before .before .args in
+    let g = graphOf (given (c .before .before .before .before .before .before .before .before .before .before .before .before .before .before .before .before .before .before)) in
+    let e = found-over g (sound (c .before .before .before .before .before .before .before .before .before .before .before .before .before .before .before .before .before .before)) (a .x) (a .limit) (length (a .out .now) / 16) _ (ran (c .before .before .before .before .before .before .before .before)) (c .before .before .before .before .before .if1 .taken) in
+    (c .refused .ensures ∙ refused-answer g (a .x) _ 5 e, c .before .before .before .clear .ensures ∙ ap blank (c .before .before .before .before .before .before .before .before .search .kept .1 .1 .1 .1 .1 .1 .1 .1 .1 .1 .1 .1 .0) ∙ refused-output g (a .x) _ 5 e (length (a .out .now)))
+
+clear-requires-2 : tie.Need-clear-requires-2
+clear-requires-2 c κs = search needs
+
+refused-requires-2 : tie.Need-refused-requires-2
+refused-requires-2 c κs = search needs
+
+same-length-2 : tie.Need-same-length-2
+same-length-2 c = search needs
+
+returns-2 : tie.Need-returns-2
+returns-2 c =
+    let a = c .before .before .before .before .before .before .before .before .before .before .before .before .before .before .before .before .before .before .before .args in
+    let g = graphOf (given (c .before .before .before .before .before .before .before .before .before .before .before .before .before .before .before .before .before .before .before)) in
+    let e = found-full g (sound (c .before .before .before .before .before .before .before .before .before .before .before .before .before .before .before .before .before .before .before)) (a .x) (a .limit) (length (a .out .now) / 16) _ (ran (c .before .before .before .before .before .before .before .before .before)) (c .before .before .before .before .before .before .if1 .left) (eq-eqb _ 1 (c .before .before .before .before .before .if2 .taken)) in
+    (c .refused2 .ensures ∙ refused-answer g (a .x) _ 6 e, c .before .before .before .clear2 .ensures ∙ ap blank (c .before .before .before .before .before .before .before .before .before .search .kept .1 .1 .1 .1 .1 .1 .1 .1 .1 .1 .1 .1 .0) ∙ refused-output g (a .x) _ 6 e (length (a .out .now)))
+
+cast-found : tie.Need-cast-found
+cast-found c =
+    let a = c .before .before .before .before .before .before .before .before .before .before .before .before .before .before .args in
+    let g = graphOf (given (c .before .before .before .before .before .before .before .before .before .before .before .before .before .before)) in
+    omega (arith, found-few g (sound (c .before .before .before .before .before .before .before .before .before .before .before .before .before .before)) (a .x) (a .limit) (length (a .out .now) / 16) _ (ran (c .before .before .before .before)) (c .before .if1 .left) (ne-eqb _ 1 (c .if2 .left)))
+
+cast-spent : tie.Need-cast-spent
+cast-spent c = search needs
+
+same-length-3 : tie.Need-same-length-3
+same-length-3 c = search needs
+
+returns-3 : tie.Need-returns-3
+returns-3 c =
+    let a = c .before .before .before .before .before .before .before .before .before .before .before .before .before .before .args in
+    let g = graphOf (given (c .before .before .before .before .before .before .before .before .before .before .before .before .before .before)) in
+    let q : length (a .out .now) / 16 * 16 ≡ length (a .out .now) = omega (arith, c .before .before .before .before .before .before .before .before .before .before .before .before .before .before .pre .1 .0) in (
+      found-answer g (sound (c .before .before .before .before .before .before .before .before .before .before .before .before .before .before)) (a .x) (a .limit) (length (a .out .now) / 16) _ (ran (c .before .before .before .before)) (c .before .if1 .left) (ne-eqb _ 1 (c .if2 .left)),
+      found-output g (sound (c .before .before .before .before .before .before .before .before .before .before .before .before .before .before)) (a .x) (a .limit) (length (a .out .now) / 16) _ (ran (c .before .before .before .before)) (c .before .if1 .left) (ne-eqb _ 1 (c .if2 .left)) ∙ ap (outputOf g (a .x) _) q,
+    )
+
+pub find-spec : {M : Type 1} → statement M
+find-spec =
+    tie.close
+    (tie.spec
+    link-requires
+    search-requires
+    array-read-count
+    array-read-full
+    clear-requires
+    refused-requires
+    same-length
+    returns
+    clear-requires-2
+    refused-requires-2
+    same-length-2
+    returns-2
+    cast-found
+    cast-spent
+    same-length-3
+    returns-3)

@@ -1,0 +1,230 @@
+// What only our own layers call: the search for the addresses of a numbered name.
+ghost use mathlib.Core.Path.{_≡_};
+ghost use Prim.Native.Nat.{_+_, _*_, _/_, _%_, _^_, _≤_, _<_};
+ghost use lib.ListN.{length, getD};
+ghost use Rattle.octets.specs.Octets.{blank};
+ghost use Rattle.address.specs.Address.{joinOf};
+ghost use Rattle.rows.specs.Halves.{addressOf};
+ghost use Rattle.search.specs.Search.{records, graphOf};
+ghost use Rattle.search.specs.Links.{maxRecords, maxNames, Numbered, memory, unusedOf, searchOf, stepOf, Fit, Done};
+ghost use Rattle.search.specs.Answers.{foundOf, writtenOf};
+use crate::links;
+use rows::inside::FIGURES;
+
+// How many records and names there may be, and the nodes of their lists (specs/Links).
+pub const RECORDS: usize = 1024;
+
+pub const NAMES: usize = 2304;
+
+pub const NODES: usize = RECORDS + NAMES;
+
+// An address by its first and its last 64 bits.
+struct Halves {
+    high: u64,
+    low: u64,
+}
+
+// The bits of `high` above k, then those of `low`.
+fn mixed(high: u64, low: u64, k: u8) -> u64
+    requires { ⌜ k < 64 ⌝ }
+    ensures { λ r. ⌜ r ≡ high / 2 ^ k * 2 ^ k + low % 2 ^ k ⌝ }
+{
+    ((high >> k) << k) + (low - ((low >> k) << k))
+}
+
+// The record's bits before `bound`, then those of the address so far.
+fn joined(
+    highs: &[u64; RECORDS],
+    lows: &[u64; RECORDS],
+    i: usize,
+    high: u64,
+    low: u64,
+    bound: u8,
+) -> Halves
+    requires { ⌜ i < maxRecords ⌝ }
+    requires { ⌜ (0 < bound) × (bound ≤ 128) ⌝ }
+    ensures { λ r. ⌜ addressOf (r .high) (r .low) ≡ joinOf (addressOf (getD (now (highs .entry)) i 0) (getD (now (lows .entry)) i 0)) (addressOf high low) bound ⌝ }
+{
+    let h = highs[i];
+    if bound <= 64 {
+        return Halves {
+            high: mixed(h, high, 64 - bound),
+            low,
+        };
+    }
+    Halves {
+        high: h,
+        low: mixed(lows[i], low, 128 - bound),
+    }
+}
+
+// Into the record i, which is unused: it is out of its list while the search goes on from it.
+fn step(
+    owners: &[u16],
+    targets: &[u16; RECORDS],
+    lengths: &[u8; RECORDS],
+    highs: &[u64; RECORDS],
+    lows: &[u64; RECORDS],
+    i: usize,
+    bound: u8,
+    high: u64,
+    low: u64,
+    next: &mut [u16; NODES],
+    prev: &mut [u16; NODES],
+    limit: u64,
+    out: &mut [u8],
+    figures: &mut [usize; FIGURES],
+    work: u64,
+) -> u64
+    requires { ⌜ Fit (records (now owners) (now targets) (now lengths) (now highs) (now lows)) (memory (now next) (now prev) (now out) (now figures) work) bound limit ⌝ }
+    requires { ⌜ (i < length (now owners)) × (getD (unusedOf (records (now owners) (now targets) (now lengths) (now highs) (now lows)) (memory (now next) (now prev) (now out) (now figures) work)) i 0 ≡ 0) × (getD (now lengths) i 0 ≤ bound) × (work ≤ limit) ⌝ }
+    ensures { λ r. ⌜ Done (memory (now (next .entry)) (now (prev .entry)) (now (out .entry)) (now (figures .entry)) work) (memory (now (next .exit)) (now (prev .exit)) (now (out .exit)) (now (figures .exit)) r) (stepOf (records (now (owners .entry)) (now (targets .entry)) (now (lengths .entry)) (now (highs .entry)) (now (lows .entry))) limit i bound (addressOf high low) (memory (now (next .entry)) (now (prev .entry)) (now (out .entry)) (now (figures .entry)) work)) ⌝ }
+{
+    let length = lengths[i];
+    let a = joined(highs, lows, i, high, low, bound);
+    let h = a.high;
+    let l = a.low;
+    let w = work + 1;
+    if length == 0 {
+        rows::inside::keep(out, figures, h, l);
+        return w;
+    }
+    let x = links::wide(targets[i]);
+    let p = links::wide(prev[i]);
+    let q = links::wide(next[i]);
+    links::unlink(p, q, next, prev);
+    let mut r = w;
+    let head = owners.len() + x;
+    let first = links::wide(next[head]);
+    if first < owners.len() {
+        r = search(
+            owners,
+            targets,
+            lengths,
+            highs,
+            lows,
+            x,
+            length,
+            h,
+            l,
+            next,
+            prev,
+            limit,
+            out,
+            figures,
+            w,
+        );
+    }
+    links::relink(i, p, q, next, prev);
+    r
+}
+
+// Over the unused records of the name x.
+fn search(
+    owners: &[u16],
+    targets: &[u16; RECORDS],
+    lengths: &[u8; RECORDS],
+    highs: &[u64; RECORDS],
+    lows: &[u64; RECORDS],
+    x: usize,
+    bound: u8,
+    high: u64,
+    low: u64,
+    next: &mut [u16; NODES],
+    prev: &mut [u16; NODES],
+    limit: u64,
+    out: &mut [u8],
+    figures: &mut [usize; FIGURES],
+    work: u64,
+) -> u64
+    requires { ⌜ Fit (records (now owners) (now targets) (now lengths) (now highs) (now lows)) (memory (now next) (now prev) (now out) (now figures) work) bound limit ⌝ }
+    requires { ⌜ x < maxNames ⌝ }
+    ensures { λ r. ⌜ Done (memory (now (next .entry)) (now (prev .entry)) (now (out .entry)) (now (figures .entry)) work) (memory (now (next .exit)) (now (prev .exit)) (now (out .exit)) (now (figures .exit)) r) (searchOf (records (now (owners .entry)) (now (targets .entry)) (now (lengths .entry)) (now (highs .entry)) (now (lows .entry))) limit x bound (addressOf high low) (memory (now (next .entry)) (now (prev .entry)) (now (out .entry)) (now (figures .entry)) work)) ⌝ }
+{
+    let mut s = work;
+    let head = owners.len() + x;
+    let mut i = links::wide(next[head]);
+    while i < owners.len() {
+        if limit < s {
+            return s;
+        }
+        if lengths[i] <= bound {
+            s = step(
+                owners,
+                targets,
+                lengths,
+                highs,
+                lows,
+                i,
+                bound,
+                high,
+                low,
+                next,
+                prev,
+                limit,
+                out,
+                figures,
+                s,
+            );
+        }
+        i = links::wide(next[i]);
+    }
+    s
+}
+
+// The addresses of the name x, or refusal 6 or 7, once the records and the output are in order; the output comes as zeros.
+pub fn find(
+    owners: &[u16],
+    targets: &[u16; RECORDS],
+    lengths: &[u8; RECORDS],
+    highs: &[u64; RECORDS],
+    lows: &[u64; RECORDS],
+    x: usize,
+    limit: u32,
+    out: &mut [u8],
+) -> octets::Answer
+    requires { ⌜ Numbered (records (now owners) (now targets) (now lengths) (now highs) (now lows)) × (x < maxNames) ⌝ }
+    requires { ⌜ (length (now out) % 16 ≡ 0) × (now out ≡ blank (length (now out))) ⌝ }
+    ensures { λ r. ⌜ r ≡ foundOf (graphOf (records (now (owners .entry)) (now (targets .entry)) (now (lengths .entry)) (now (highs .entry)) (now (lows .entry)))) x limit (length (now (out .entry))) ⌝ }
+    ensures { λ _. ⌜ now (out .exit) ≡ writtenOf (graphOf (records (now (owners .entry)) (now (targets .entry)) (now (lengths .entry)) (now (highs .entry)) (now (lows .entry)))) x limit (length (now (out .entry))) ⌝ }
+{
+    let mut next = [0u16; NODES];
+    let mut prev = [0u16; NODES];
+    links::link(owners, &mut next, &mut prev);
+    let mut figures = [0usize; FIGURES];
+    let most = limit as u64;
+    let work = search(
+        owners,
+        targets,
+        lengths,
+        highs,
+        lows,
+        x,
+        128,
+        0,
+        0,
+        &mut next,
+        &mut prev,
+        most,
+        out,
+        &mut figures,
+        0,
+    );
+    let count = figures[0];
+    let full = figures[1];
+    if most < work {
+        octets::clear(out);
+        return octets::refused(6);
+    }
+    if full == 1 {
+        octets::clear(out);
+        return octets::refused(7);
+    }
+    let found = count as u32;
+    let spent = work as u32;
+    octets::Answer {
+        number: 0,
+        count: found,
+        work: spent,
+    }
+}
