@@ -15,7 +15,7 @@ use Rattle.octets.proofs.OctetLaws.{length-blank, small-drop, small-take, drop-
 use Rattle.octets.proofs.SmallLaws.{earns-zero, earns-own}
 use Rattle.names.specs.Scan.{scanOf, wellFormed}
 use Rattle.names.specs.Standard.{standardOf}
-use Rattle.names.specs.Steps.{scanned, found}
+use Rattle.names.specs.Answers.{scanned, found}
 use Rattle.names.specs.Name.{nameOf, heldOf}
 use Rattle.names.specs.declared.Scanned.{Scanned}
 use Rattle.names.specs.declared.Name.{Name}

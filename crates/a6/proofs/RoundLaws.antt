@@ -1,5 +1,5 @@
 -- What is read can be written, and what can be written is read again. Assumes nothing.
-use Prim.Native.Nat.{ℕ, zero, suc, _+_, _-_, _%_, _^_, _≤_}
+use Prim.Native.Nat.{ℕ, suc, _+_, _-_, _%_, _^_, _≤_}
 use mathlib.Core.Path.{_≡_, refl, ap, _∙_, sym}
 use mathlib.Core.Bool.{Bool, true, false}
 use mathlib.Core.List.{List, [], _∷_, _++_}
@@ -14,7 +14,7 @@ use Rattle.octets.proofs.OctetLaws.{length-blank, small-drop, small-take, nil-o
 use Rattle.octets.proofs.SmallLaws.{small-cons, small-append}
 use Rattle.octets.proofs.ZeroLaws.{blank-eq}
 use Rattle.names.specs.Scan.{scanOf}
-use Rattle.names.specs.Steps.{scanned}
+use Rattle.names.specs.Answers.{scanned}
 use Rattle.names.specs.Standard.{standardOf}
 use Rattle.names.specs.Name.{nameOf, heldOf}
 use Rattle.names.specs.declared.Name.{Name}

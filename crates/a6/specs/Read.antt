@@ -7,7 +7,7 @@ use lib.ListN.{length, take}
 use Rattle.octets.specs.Octets.{blank}
 use Rattle.octets.specs.Answers.{earns}
 use Rattle.names.specs.Scan.{scanOf}
-use Rattle.names.specs.Steps.{scanned, found}
+use Rattle.names.specs.Answers.{scanned, found}
 use Rattle.names.specs.Name.{nameOf, heldOf}
 use Rattle.names.specs.declared.Scanned.{Scanned}
 use Rattle.names.specs.declared.Name.{Name}

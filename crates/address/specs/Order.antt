@@ -1,9 +1,9 @@
 -- The ascending order of addresses (01, What comes back): by the octets, the first that differ decide. Assumes nothing.
 use Prim.Native.Nat.{ℕ}
 use mathlib.Core.Path.{_≡_}
-use mathlib.Core.Bool.{Bool, true, false}
+use mathlib.Core.Bool.{true, false}
 use mathlib.Core.List.{List, [], _∷_}
-use lib.Dec.{ltb, eqb}
+use lib.Dec.{ltb}
 use Rattle.address.specs.declared.Order.{Order}
 use Rattle.address.specs.declared.Order.the-variants.{Before, Same, After}
 

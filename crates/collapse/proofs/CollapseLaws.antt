@@ -1,35 +1,24 @@
 -- The number of a collapse, test by test; its answer and its output by the number. Assumes nothing.
 use Prim.Native.Nat.{ℕ, zero, suc, _-_, _*_, _/_, _%_, _≤_, _<_, min}
-use mathlib.Core.Path.{_≡_, refl, sym, ap, _∙_}
-use mathlib.Core.Bool.{Bool, true, false, _||_}
-use mathlib.Core.List.{List, [], _++_}
+use mathlib.Core.Path.{_≡_, refl, ap, _∙_}
+use mathlib.Core.Bool.{Bool, true, false}
+use mathlib.Core.List.{List, _++_}
 use native.Mathlib.Omega.{arith}
 use lib.Dec.{ltb}
-use lib.ListN.{length, take, length-append}
-use lib.Seq.{take-at}
+use lib.ListN.{length}
 use borrow.Author.Tests.{ltb-true, ltb-false, lt-ltb, le-ltb, eq-eqb, ne-eqb}
-use Rattle.octets.specs.Octets.{blank, Small, flat}
-use Rattle.octets.proofs.OctetLaws.{nil-of-length}
+use Rattle.octets.proofs.BoolLaws.{or-true}
+use Rattle.octets.specs.Octets.{blank, flat}
 use Rattle.octets.specs.Answers.{answering, refusal}
 use Rattle.octets.specs.declared.Answer.{Answer}
 use Rattle.names.specs.Scan.{wellFormed}
-use Rattle.names.specs.Standard.{standardOf, inStandardForm}
-use Rattle.names.specs.Name.{nameOf, heldOf}
-use Rattle.names.specs.declared.Name.{Name}
-use Rattle.names.proofs.RoundLaws.{standard-formed, standard-again}
-use Rattle.names.proofs.StandardLaws.{standard-in}
-use Rattle.names.proofs.NameLaws.{held-formed, held-malformed}
+use Rattle.names.specs.Standard.{standardOf}
 use Rattle.plan.specs.Layout.{recordSize, maxRecords}
 use Rattle.plan.specs.Check.{checkOf, checkAnswer, InOrder}
 use Rattle.plan.proofs.OrderLaws.{number-answer}
 use Rattle.collapse.specs.Fold.{foldOf, reviving}
 use Rattle.collapse.specs.Collapse.{misshapen, passes, numberOf, answerFor, outFor, collapseAnswer, collapseOut}
-use Rattle.collapse.proofs.TestLaws.{not-both, refuted}
 use Rattle.collapse.proofs.RunningLaws.{fold-same, reviving-same}
-
-empty-malformed : wellFormed [] ≡ false
-unfolding wellFormed
-empty-malformed = refl
 
 -- ---- 7
 module _ (size : ℕ) (rs : List (List ℕ)) where
@@ -39,11 +28,7 @@ module _ (size : ℕ) (rs : List (List ℕ)) where
 
   pub passes-many : maxRecords < length rs → passes size rs ≡ true
   unfolding passes
-  passes-many h = rw (lt-ltb maxRecords (length rs) h) (go (ltb (size / recordSize) (length rs)))
-    where
-      go : (b : Bool) → b || true ≡ true
-      go true = refl
-      go false = refl
+  passes-many h = rw (lt-ltb maxRecords (length rs) h) (or-true (ltb (size / recordSize) (length rs)))
 
   pub passes-not : length rs ≤ size / recordSize → length rs ≤ maxRecords → passes size rs ≡ false
   unfolding passes
@@ -149,36 +134,3 @@ module _ (t x y : List ℕ) (size : ℕ) (e : standardOf x ≡ standardOf y) (w 
 -- ---- the check, as it is answered
 pub checked : (t : List ℕ) (v : Answer) → v ≡ checkAnswer t → v .number ≡ checkOf t
 checked t v e = ap (λ (u : Answer). u .number) e ∙ number-answer t
-
--- ---- the given name as it is held
-pub held-room : (x : List ℕ) → heldOf x .length ≤ length (heldOf x .octets)
-unfolding nameOf
-held-room x = go (wellFormed x) refl
-  where
-    go : (b : Bool) → wellFormed x ≡ b → heldOf x .length ≤ length (heldOf x .octets)
-    go true w = rw (held-formed x w) (omega (arith, length-append (standardOf x) (blank (255 - length (standardOf x)))))
-    go false w = rw (held-malformed x w) (omega arith)
-
-module _ (x : List ℕ) (s : Small x) where
-  pub held-none : heldOf x .length ≡ 0 → wellFormed x ≡ false
-  unfolding nameOf
-  held-none h = refuted (wellFormed x) (λ w.
-      let l : length (standardOf x) ≡ 0 = ap (λ (n : Name). n .length) (sym (held-formed x w)) ∙ h in
-      let e = ap wellFormed (sym (nil-of-length (standardOf x) l)) ∙ standard-formed x s w in
-      not-both (wellFormed []) e empty-malformed)
-
-  pub held-some : (heldOf x .length ≡ 0 → ⊥) → wellFormed x ≡ true
-  unfolding nameOf
-  held-some h = go (wellFormed x) refl
-    where
-      go : (b : Bool) → wellFormed x ≡ b → wellFormed x ≡ true
-      go true w = w
-      go false w = absurd (h (ap (λ (n : Name). n .length) (held-malformed x w)))
-
-  module _ (w : wellFormed x ≡ true) where
-    pub held-name : take (heldOf x .length) (heldOf x .octets) ≡ standardOf x
-    unfolding nameOf
-    held-name = rw (held-formed x w) (take-at (standardOf x) (blank (255 - length (standardOf x))) (length (standardOf x)) refl)
-
-    pub held-standard : inStandardForm (standardOf x) ≡ true
-    held-standard = standard-in (standardOf x) (standard-formed x s w) (standard-again x s w)

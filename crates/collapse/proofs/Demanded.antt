@@ -9,6 +9,7 @@ use lib.Dec.{ltb, eqb}
 use lib.ListN.{length}
 use lib.Seq.{take-at}
 use borrow.Author.Tests.{ltb-true, ltb-false, eqb-true, eqb-false}
+use Rattle.octets.proofs.BoolLaws.{clash, refuted}
 use Rattle.octets.specs.Octets.{blank, flat}
 use Rattle.octets.specs.declared.Answer.{Answer}
 use Rattle.names.specs.Scan.{wellFormed}
@@ -21,24 +22,11 @@ use Rattle.collapse.specs.Fold.{foldOf, reviving}
 use Rattle.collapse.specs.Rule.{Reviving}
 use Rattle.collapse.specs.Collapse.{passes, numberOf, collapseOf}
 use Rattle.collapse.specs.Demand3.{Call, gives, after, inHand, ruled, Passes, Answered, Demand3}
-use Rattle.collapse.proofs.TestLaws.{not-both, refuted, reviving-is, is-reviving}
+use Rattle.collapse.proofs.TestLaws.{reviving-is, is-reviving}
 use Rattle.collapse.proofs.FoldLaws.{fold-whole, fold-rule}
 use Rattle.collapse.proofs.OrderedLaws.{fold-ordered}
 use Rattle.collapse.proofs.Kept.{fold-spells}
-use Rattle.collapse.proofs.CollapseLaws.{
-  passes-room,
-  passes-many,
-  passes-not,
-  number-name,
-  number-output,
-  number-reviving,
-  number-room,
-  number-done,
-  answer-number,
-  refused-answer,
-  done-answer,
-  done-out,
-}
+use Rattle.collapse.proofs.CollapseLaws.{passes-room, passes-many, passes-not, number-name, number-output, number-reviving, number-room, number-done, answer-number, done-answer, done-out}
 
 -- ---- the records of the rule pass the room or 1,024
 module _ (size : ℕ) (rs : List (List ℕ)) where
@@ -47,8 +35,8 @@ module _ (size : ℕ) (rs : List (List ℕ)) where
 
   not-passing : passes size rs ≡ false → (length rs ≤ size / recordSize) × (length rs ≤ maxRecords)
   not-passing e = (
-    ltb-false (size / recordSize) (length rs) (refuted (ltb (size / recordSize) (length rs)) (λ h. not-both (passes size rs) (passes-room size rs (ltb-true (size / recordSize) (length rs) h)) e)),
-    ltb-false maxRecords (length rs) (refuted (ltb maxRecords (length rs)) (λ h. not-both (passes size rs) (passes-many size rs (ltb-true maxRecords (length rs) h)) e)),
+    ltb-false (size / recordSize) (length rs) (refuted (ltb (size / recordSize) (length rs)) (λ h. clash (passes-room size rs (ltb-true (size / recordSize) (length rs) h)) e)),
+    ltb-false maxRecords (length rs) (refuted (ltb maxRecords (length rs)) (λ h. clash (passes-many size rs (ltb-true maxRecords (length rs) h)) e)),
   )
 
   passing-is : passes size rs ≡ true → Passes size rs
@@ -60,7 +48,7 @@ module _ (size : ℕ) (rs : List (List ℕ)) where
         where
           other : (c : Bool) → ltb maxRecords (length rs) ≡ c → Passes size rs
           other true k = inr (ltb-true maxRecords (length rs) k)
-          other false k = absurd (not-both (passes size rs) e (passes-not size rs (ltb-false (size / recordSize) (length rs) h) (ltb-false maxRecords (length rs) k)))
+          other false k = absurd (clash e (passes-not size rs (ltb-false (size / recordSize) (length rs) h) (ltb-false maxRecords (length rs) k)))
 
 -- ---- the table in hand after a call
 after-refusal : (t : List ℕ) (o : Answer × List ℕ) (k : ℕ) → o .0 .number ≡ suc k → after t o ≡ t
@@ -141,7 +129,7 @@ module _ (t : List ℕ) (o : InOrder t) (c : Call) where
       by-name true w false e d v = let y : ⊥ = omega (arith, number-output t x (c .size) o w (eqb-false (c .size % recordSize) 0 e)) in absurd y
       by-name true w true e true v = let y : ⊥ = omega (arith, number-reviving t x (c .size) o w (eqb-true (c .size % recordSize) 0 e) v) in absurd y
       by-name true w true e false v = record {
-        quiet = λ r. not-both (reviving x t) (is-reviving x t r) v;
+        quiet = λ r. clash (is-reviving x t r) v;
         few = ⊎-elim (λ p. let y : ⊥ = omega (arith, p .0) in absurd y) (λ p. not-passing (c .size) (ruled t c) (p .1) .1) (rest w (eqb-true (c .size % recordSize) 0 e) v);
       }
 

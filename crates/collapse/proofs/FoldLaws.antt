@@ -6,6 +6,7 @@ use mathlib.Core.Bool.{Bool, true, false}
 use mathlib.Core.List.{List, [], _∷_, _++_, append-nil}
 use native.Mathlib.Omega.{arith}
 use lib.ListN.{length, getD}
+use Rattle.octets.proofs.BoolLaws.{clash}
 use Rattle.chains.specs.Lists.{In, upTo}
 use Rattle.chains.proofs.ListLaws.{in-at, in-upTo, upTo-in, in-pick}
 use Rattle.plan.specs.Layout.{recordSize, countOf, recordAt}
@@ -13,7 +14,7 @@ use Rattle.plan.proofs.LayoutLaws.{Whole, record-length}
 use Rattle.collapse.specs.Fold.{unfinished, continues, joinedOf, madeOf, placeOf, foldOf}
 use Rattle.collapse.specs.Rule.{Unfinished, Continues, Made, taken, passed, Ruled, replaced, copied}
 use Rattle.collapse.specs.Rule as rule
-use Rattle.collapse.proofs.TestLaws.{not-both, unfinished-is, is-unfinished, continues-is, is-continues}
+use Rattle.collapse.proofs.TestLaws.{unfinished-is, is-unfinished, continues-is, is-continues}
 use Rattle.collapse.proofs.RecordLaws.{joined-length, joins}
 
 -- ---- one record
@@ -73,7 +74,7 @@ module _ (x t : List ℕ) where
       go true e = inr (made-source s i h (unfinished-is x (recordAt t i) e) (rw (place-on x t i e) at m))
       go false e =
           let k : In s (recordAt t i ∷ []) = rw (place-off x t i e) at m in
-          inl (record { i = i; there = h; other = λ u. not-both (unfinished x (recordAt t i)) (is-unfinished x (recordAt t i) u) e; same = ⊎-elim (λ p. p) (λ z. absurd z) k })
+          inl (record { i = i; there = h; other = λ u. clash (is-unfinished x (recordAt t i) u) e; same = ⊎-elim (λ p. p) (λ z. absurd z) k })
 
   pub fold-source : (j : ℕ) → j < length (foldOf x t) → Copy (getD (foldOf x t) j []) ⊎ Source (getD (foldOf x t) j [])
   unfolding foldOf
@@ -114,7 +115,7 @@ module _ (x t : List ℕ) where
     where
       go : (b : Bool) → continues r (recordAt t n) ≡ b → Made t r n (upTo n (madeOf t r)) → Made t r (suc n) (upTo n (madeOf t r) ++ madeOf t r n)
       go true e d = rw (made-on t r n e) (taken (continues-is r (recordAt t n) e) (joins r (recordAt t n) w (record-length t n (omega arith))) d)
-      go false e d = rw (made-off t r n e, append-nil (upTo n (madeOf t r))) (passed (λ c. not-both (continues r (recordAt t n)) (is-continues r (recordAt t n) c) e) d)
+      go false e d = rw (made-off t r n e, append-nil (upTo n (madeOf t r))) (passed (λ c. clash (is-continues r (recordAt t n) c) e) d)
 
   rule-to : (n : ℕ) → n ≤ countOf t → Ruled x t n (upTo n (placeOf x t))
   unfolding upTo
@@ -124,7 +125,7 @@ module _ (x t : List ℕ) where
       go : (b : Bool) → unfinished x (recordAt t n) ≡ b → Ruled x t n (upTo n (placeOf x t)) → Ruled x t (suc n) (upTo n (placeOf x t) ++ placeOf x t n)
       go true e d =
           rw (place-on x t n e) (replaced (unfinished-is x (recordAt t n) e) (made-rule (recordAt t n) (record-length t n (omega arith)) (countOf t) (omega arith)) d)
-      go false e d = rw (place-off x t n e) (copied (λ u. not-both (unfinished x (recordAt t n)) (is-unfinished x (recordAt t n) u) e) d)
+      go false e d = rw (place-off x t n e) (copied (λ u. clash (is-unfinished x (recordAt t n) u) e) d)
 
   pub fold-rule : Ruled x t (countOf t) (foldOf x t)
   unfolding foldOf

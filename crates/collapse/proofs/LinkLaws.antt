@@ -9,6 +9,7 @@ use lib.Dec.{ltb, eqb}
 use lib.ListN.{length, getD, set, replicate, getD-replicate, length-set}
 use lib.Seq.{getD-set-same, getD-set-other}
 use borrow.Author.Tests.{lt-ltb, ltb-true, ltb-false, eq-eqb, eqb-true}
+use Rattle.octets.proofs.BoolLaws.{clash, refuted}
 use Rattle.names.proofs.StandardLaws.{same-same-name}
 use Rattle.chains.specs.Lists.{upTo}
 use Rattle.chains.proofs.ListLaws.{true-both, both-true}
@@ -21,7 +22,7 @@ use Rattle.plan.proofs.OrderLaws.{order-count, order-good}
 use Rattle.plan.proofs.MarkLaws.{same-mark}
 use Rattle.collapse.specs.Fold.{continues, madeOf}
 use Rattle.collapse.specs.Running.{bucketOf, belongs, firstIn, Linked}
-use Rattle.collapse.proofs.TestLaws.{not-both, refuted, first-passes, continues-is}
+use Rattle.collapse.proofs.TestLaws.{first-passes, continues-is}
 use Rattle.collapse.proofs.FoldLaws.{made-off}
 
 -- ---- the first number that passes a test
@@ -138,7 +139,7 @@ module _ (t : List ℕ) (o : InOrder t) (i : ℕ) (h : i < countOf t) (l : 0 < p
       let s = continues-is (recordAt t i) (recordAt t k) c in
       let m = same-mark (ownerSlot (recordAt t k)) (targetSlot (recordAt t i)) (order-good t o k q .owner)
       (order-good t o i h .target (targetless-on (recordAt t i) (λ z. omega arith))) (same-same-name (ownerAt t k) (targetAt t i) (s .2)) in
-      not-both (belongs t (bucketOf (targetSlot (recordAt t i))) k) (is-belongs t (bucketOf (targetSlot (recordAt t i))) k q (ap (λ (v : ℕ). v % 256) m)) e))
+      clash (is-belongs t (bucketOf (targetSlot (recordAt t i))) k q (ap (λ (v : ℕ). v % 256) m)) e))
 
   -- from a on, nothing is made before the first record of the target's bucket
   pub walk : (a : ℕ) → a ≤ countOf t → upTo (min (firstIn t (bucketOf (targetSlot (recordAt t i))) a) (countOf t)) (madeOf t (recordAt t i)) ≡ upTo a (madeOf t (recordAt t i))

@@ -8,24 +8,7 @@ use lib.ListN.{length}
 use Rattle.address.specs.Address.{joinOf}
 use Rattle.address.proofs.AddressLaws.{join-length}
 use Rattle.address.proofs.ClearLaws.{clear-join}
-use Rattle.plan.specs.Layout.{
-  recordSize,
-  addressSize,
-  slotSize,
-  a6,
-  dname,
-  typeOf,
-  prefixOf,
-  zeroOf,
-  addressOf,
-  ownerSlot,
-  targetSlot,
-  nameIn,
-  isA6,
-  recordOf,
-  ownerOf,
-  targetOf,
-}
+use Rattle.plan.specs.Layout.{recordSize, addressSize, a6, typeOf, prefixOf, addressOf, ownerSlot, targetSlot, isA6, recordOf}
 use Rattle.plan.specs.Check.{targetless}
 use Rattle.plan.specs.Good.{Good}
 use Rattle.plan.proofs.RecordLaws.{address-length, owner-length, target-length, type-made, prefix-made, zero-made, record-made, address-made, owner-made, target-made}

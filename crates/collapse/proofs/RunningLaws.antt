@@ -10,6 +10,7 @@ use lib.Dec.{leb, ltb, eqb}
 use lib.ListN.{length, take, drop, length-append, length-drop, drop-of-length-le}
 use lib.Seq.{paste, take-at, drop-drop, drop-append-add, take-all, length-take-le}
 use borrow.Author.Tests.{lt-ltb, le-ltb, le-leb, lt-leb, ltb-true, ltb-false, eqb-true, eqb-false}
+use Rattle.octets.proofs.BoolLaws.{clash, refuted}
 use Rattle.plan.proofs.FaultLaws.{a6-not}
 use Rattle.octets.specs.Octets.{blank, flat}
 use Rattle.names.specs.Standard.{sameName, standardOf}
@@ -23,7 +24,7 @@ use Rattle.plan.proofs.OrderLaws.{order-good}
 use Rattle.collapse.specs.Fold.{unfinished, continues, refers, ignores, reviving, madeOf, placeOf, foldOf}
 use Rattle.collapse.specs.declared.Span.{Span}
 use Rattle.collapse.specs.Running.{Fit, leastOf, mostOf, spanOf, storedOne, stored, Put}
-use Rattle.collapse.proofs.TestLaws.{not-both, refuted, type-a6, reviving-is, is-reviving, unfinished-is, is-unfinished, refers-is, is-refers}
+use Rattle.collapse.proofs.TestLaws.{type-a6, reviving-is, is-reviving, unfinished-is, is-unfinished, refers-is, is-refers}
 use Rattle.collapse.proofs.FoldLaws.{made-on, made-off}
 
 -- ---- the tests of records, in the order of the code
@@ -93,7 +94,7 @@ module _ (f : ℕ → Bool) (v : ℕ → ℕ) where
       go : (b : Bool) → f n ≡ b → (d : Bool) → eqb i n ≡ d → (i < n → leastOf f v n ≤ v i) → pick b (min (leastOf f v n) (v n)) (leastOf f v n) ≤ v i
       go true p true q ih = let s = ap v (eqb-true i n q) in omega arith
       go true p false q ih = let d = eqb-false i n q in let k = ih (omega (arith, d)) in omega arith
-      go false p true q ih = absurd (not-both (f n) (ap f (sym (eqb-true i n q)) ∙ e) p)
+      go false p true q ih = absurd (clash (ap f (sym (eqb-true i n q)) ∙ e) p)
       go false p false q ih = let d = eqb-false i n q in ih (omega (arith, d))
 
   most-ge : (n i : ℕ) → i < n → f i ≡ true → v i ≤ mostOf f v n
@@ -104,7 +105,7 @@ module _ (f : ℕ → Bool) (v : ℕ → ℕ) where
       go : (b : Bool) → f n ≡ b → (d : Bool) → eqb i n ≡ d → (i < n → v i ≤ mostOf f v n) → v i ≤ pick b (max (mostOf f v n) (v n)) (mostOf f v n)
       go true p true q ih = let s = ap v (eqb-true i n q) in omega arith
       go true p false q ih = let d = eqb-false i n q in let k = ih (omega (arith, d)) in omega arith
-      go false p true q ih = absurd (not-both (f n) (ap f (sym (eqb-true i n q)) ∙ e) p)
+      go false p true q ih = absurd (clash (ap f (sym (eqb-true i n q)) ∙ e) p)
       go false p false q ih = let d = eqb-false i n q in ih (omega (arith, d))
 
   -- one that passes has the value, where it is not the one for none

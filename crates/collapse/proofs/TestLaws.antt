@@ -1,10 +1,11 @@
 -- The tests of records decide the statements about them. Assumes nothing.
 use Prim.Native.Nat.{ℕ, zero, suc, _+_, _<_}
-use mathlib.Core.Path.{_≡_, refl, sym, _∙_}
+use mathlib.Core.Path.{_≡_, refl}
 use mathlib.Core.Bool.{Bool, true, false, _&&_}
 use mathlib.Core.List.{List}
 use native.Mathlib.Omega.{arith}
 use borrow.Author.Tests.{lt-ltb, ltb-true, le-leb, leb-true, eq-eqb, eqb-true}
+use Rattle.octets.proofs.BoolLaws.{clash}
 use Rattle.names.proofs.StandardLaws.{same-name-same, same-same-name}
 use Rattle.chains.proofs.ListLaws.{both-true}
 use Rattle.plan.specs.First.{firstFrom, some}
@@ -14,16 +15,6 @@ use Rattle.collapse.specs.Fold.{unfinished, continues, refers, ignores, 
 use Rattle.collapse.specs.Rule.{Unfinished, Continues, Refers, Reviving}
 
 -- ---- truth values
-pub clash : {A : Type 0} → false ≡ true → A
-clash e = let z : _≡_ {A = ℕ} 0 1 = cc in let y : ⊥ = omega arith in absurd y
-
-pub refuted : (b : Bool) → (b ≡ true → ⊥) → b ≡ false
-refuted true h = absurd (h refl)
-refuted false h = refl
-
-pub not-both : (b : Bool) → b ≡ true → b ≡ false → ⊥
-not-both b p q = clash (sym q ∙ p)
-
 -- three tests in a row
 pub three : (a b c : Bool) → a && b && c ≡ true → (a ≡ true) × (b ≡ true) × (c ≡ true)
 three a b c h =
@@ -96,7 +87,7 @@ module _ (f : ℕ → Bool) (n : ℕ) where
     where
       go : (b : Bool) → some f n ≡ b → some f n ≡ true
       go true p = p
-      go false p = absurd (not-both (f i) e (first-none f n (some-none f n p) i h))
+      go false p = absurd (clash e (first-none f n (some-none f n p) i h))
 
 -- ---- test 9
 pub reviving-is : (x t : List ℕ) → reviving x t ≡ true → Reviving x t

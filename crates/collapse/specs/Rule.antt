@@ -5,22 +5,7 @@ use mathlib.Core.List.{List, [], _∷_, _++_}
 use lib.ListN.{length}
 use Rattle.names.specs.Standard.{Same}
 use Rattle.address.specs.Address.{joinOf}
-use Rattle.plan.specs.Layout.{
-  recordSize,
-  a6,
-  typeOf,
-  prefixOf,
-  zeroOf,
-  addressOf,
-  ownerSlot,
-  targetSlot,
-  nameIn,
-  ownerOf,
-  targetOf,
-  countOf,
-  recordAt,
-  prefixAt,
-}
+use Rattle.plan.specs.Layout.{recordSize, a6, typeOf, prefixOf, zeroOf, addressOf, ownerSlot, targetSlot, ownerOf, targetOf, countOf, recordAt, prefixAt}
 
 -- an unfinished A6 record of x
 abbrev pub Unfinished : List ℕ → List ℕ → Type 0

@@ -27,11 +27,10 @@ use Rattle.address.proofs.compare.Reads as compare
 use Rattle.address.proofs.is_clear.Reads as is-clear
 use Rattle.names.specs.Scan as scans
 use Rattle.names.specs.Scan.{scanOf}
-use Rattle.names.specs.Steps.{scanned, finish}
 use Rattle.names.specs.Standard.{sameName, inStandardForm}
 use Rattle.names.specs.Name.{nameOf, heldOf}
 use Rattle.names.specs.Answers as standards
-use Rattle.names.specs.Answers.{standardNumber, standardAnswer, standardOut}
+use Rattle.names.specs.Answers.{standardNumber, standardAnswer, standardOut, scanned, finish}
 use Rattle.names.specs.declared.Scanned.{Scanned}
 use Rattle.names.specs.declared.Name.{Name}
 use Rattle.names.proofs.standard_form.Reads as standard-form

@@ -1,9 +1,8 @@
 -- The output that a definition gives has as many octets as were lent, whatever the number. Assumes nothing.
 use Prim.Native.Nat.{ℕ, zero, suc, _-_, _*_, _/_, _%_, _≤_}
 use mathlib.Core.Path.{_≡_, refl, ap, _∙_, sym}
-use mathlib.Core.Logic.{inl, inr}
 use mathlib.Core.Bool.{not, _||_}
-use mathlib.Core.List.{List, [], _∷_, _++_}
+use mathlib.Core.List.{List, [], _++_}
 use lib.Dec.{ltb, eqb}
 use lib.ListN.{length, length-append, getD}
 use native.Mathlib.Omega.{arith}
@@ -18,7 +17,6 @@ use Rattle.names.specs.Standard.{Unit, standardOf, encode}
 use Rattle.names.specs.Answers.{standardNumber, standardOut}
 use Rattle.names.proofs.AnswerLaws as names
 use Rattle.names.proofs.NameLaws.{standard-short}
-use Rattle.chains.specs.Lists.{In}
 use Rattle.chains.specs.Listing.{workOf}
 use Rattle.chains.specs.Addresses.{addressesOf}
 use Rattle.chains.proofs.AddressesLaws.{spells-listed}

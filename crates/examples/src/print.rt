@@ -1,5 +1,4 @@
 // To standard output: answers, addresses and names as text.
-ghost use mathlib.Core.Path.{_≡_};
 ghost use Prim.Native.Nat.{_+_, _*_, _≤_, _<_};
 ghost use lib.ListN.{length};
 use libc::STDOUT_FILENO;

@@ -2,21 +2,16 @@
 use Prim.Native.Nat.{ℕ, zero, suc, _-_, _/_, _%_, _≤_, _<_}
 use mathlib.Core.Path.{_≡_, refl, ap, _∙_, sym}
 use mathlib.Core.Bool.{Bool, true, false, _&&_}
-use mathlib.Core.List.{List, []}
+use mathlib.Core.List.{List}
 use lib.Dec.{eqb}
 use lib.ListN.{length, getD, take}
-use lib.Seq.{length-take-le, getD-take, take-append-seam}
+use lib.Seq.{length-take-le, getD-take}
 use native.Mathlib.Omega.{arith}
 use borrow.Author.Tests.{ne-eqb, eq-eqb}
 use Rattle.octets.specs.Octets.{blank, Small}
 use Rattle.octets.specs.Answers.{refusal}
 use Rattle.names.specs.Scan.{wellFormed}
 use Rattle.names.specs.Standard.{standardOf}
-use Rattle.names.specs.Name.{nameOf, heldOf}
-use Rattle.names.specs.declared.Name.{Name}
-use Rattle.names.proofs.NameLaws.{held-formed, held-malformed}
-use Rattle.names.proofs.RoundLaws.{standard-formed}
-use Rattle.octets.proofs.OctetLaws.{nil-of-length}
 use Rattle.chains.specs.Lists.{pick}
 use Rattle.chains.specs.Graph.{Graph}
 use Rattle.chains.specs.Listing.{workOf}
@@ -180,29 +175,3 @@ module _ (t name : List ℕ) (limit size : ℕ) where
     pub lookup-written : outputOf (graphOf t) (standardOf name) (numberOf (graphOf t) (standardOf name) limit (size / 16)) size ≡ lookupOut t name limit size
     unfolding lookupOut number
     lookup-written = output-like (graphOf t) (graphOf t) (standardOf name) name (work-standard t name s w) (addresses-standard t name s w) number size ∙ ap (λ (k : ℕ). outputOf (graphOf t) name k size) number-is
-
--- what the value that holds a given name tells
-module _ (x : List ℕ) where
-  pub held-well : (heldOf x .length ≡ 0 → ⊥) → wellFormed x ≡ true
-  unfolding nameOf
-  held-well h = go (wellFormed x) refl
-    where
-      go : (b : Bool) → wellFormed x ≡ b → wellFormed x ≡ true
-      go true w = w
-      go false w = absurd (h (ap (λ (n : Name). n .length) (held-malformed x w)))
-
-  pub held-not : Small x → heldOf x .length ≡ 0 → wellFormed x ≡ false
-  unfolding nameOf wellFormed
-  held-not s h = go (wellFormed x) refl
-    where
-      go : (b : Bool) → wellFormed x ≡ b → wellFormed x ≡ false
-      go true w =
-          let e : length (standardOf x) ≡ 0 = sym (ap (λ (n : Name). n .length) (held-formed x w)) ∙ h in
-          let z : wellFormed [] ≡ true = ap wellFormed (sym (nil-of-length (standardOf x) e)) ∙ standard-formed x s w in
-          let y : _≡_ {A = ℕ} 0 1 = cc in
-          let v : ⊥ = omega arith in absurd v
-      go false w = w
-
-  pub held-name : wellFormed x ≡ true → take (heldOf x .length) (heldOf x .octets) ≡ standardOf x
-  unfolding nameOf
-  held-name w = rw (held-formed x w) (take-append-seam (standardOf x) (blank (255 - length (standardOf x))))

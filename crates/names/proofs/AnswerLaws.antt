@@ -11,9 +11,8 @@ use borrow.Author.Tests.{eq-eqb, ne-eqb}
 use Rattle.octets.specs.Octets.{blank, Small}
 use Rattle.names.specs.Scan.{Reading, refused, done, scanOf, apart, labelsOf, fills, wellFormed}
 use Rattle.names.specs.Standard.{standardOf}
-use Rattle.names.specs.Steps.{scanned}
 use Rattle.octets.specs.Answers.{answering, refusal}
-use Rattle.names.specs.Answers.{standardNumber, standardAnswer, standardOut}
+use Rattle.names.specs.Answers.{standardNumber, standardAnswer, standardOut, scanned}
 use Rattle.octets.proofs.OctetLaws.{nil-of-length, drop-blank}
 use Rattle.names.proofs.WriteLaws.{standard-apart}
 

@@ -22,7 +22,7 @@ use Rattle.names.specs.declared.Run.{Run}
 use Rattle.names.specs.declared.Place.{Place}
 use Rattle.bits.proofs.BitLaws.{unpack-length}
 use Rattle.names.proofs.LabelLaws.{first-at, count-at, count-least, size-bits, size-ordinary}
-use Rattle.names.proofs.ScanLaws.{size-least, label-bits, label-ordinary}
+use Rattle.names.proofs.ScanLaws.{size-least, label-bits, label-ordinary, size-drop}
 use Rattle.names.proofs.WriteLaws.{or-left, encode-before, well-reads, bit-label-some}
 use Rattle.bits.proofs.PackLaws.{packer, clean-drop, clean-more, take-more}
 use Rattle.octets.proofs.OctetLaws.{length-blank}
@@ -42,11 +42,7 @@ labels-more : (xs : List ℕ) → (firstOf xs ≡ 0 → ⊥) → labelsFrom 0 xs
 unfolding labelsFrom
 labels-more [] e = absurd (e refl)
 labels-more (x ∷ xs) e =
-    rw (labelsFrom, ne-eqb x 0 e) (ap (λ (ls : List Label). labelOf (x ∷ xs) ∷ ls) (labels-skip (sizeOf (x ∷ xs) - 1) xs ∙ ap (labelsFrom 0) (go (sizeOf (x ∷ xs)) (size-least (x ∷ xs)))))
-  where
-    go : (k : ℕ) → 0 < k → drop (k - 1) xs ≡ drop k (x ∷ xs)
-    go zero p = let z : ⊥ = omega arith in absurd z
-    go (suc k) p = let q : suc k - 1 ≡ k = omega arith in rw q
+    rw (labelsFrom, ne-eqb x 0 e) (ap (λ (ls : List Label). labelOf (x ∷ xs) ∷ ls) (labels-skip (sizeOf (x ∷ xs) - 1) xs ∙ ap (labelsFrom 0) (size-drop x xs)))
 
 pub reads-labels : {used run : ℕ} {xs : List ℕ} {ls : List Label} {end : ℕ} → Reads used run xs ls end → ls ≡ labelsFrom 0 xs
 reads-labels (root {xs = xs} o f e) = sym (labels-end xs f)

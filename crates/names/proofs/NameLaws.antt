@@ -1,19 +1,23 @@
 -- Laws of a name held by value. Assumes nothing.
-use Prim.Native.Nat.{ℕ, _≤_}
-use mathlib.Core.Path.{_≡_, refl}
+use Prim.Native.Nat.{ℕ, _-_, _≤_}
+use mathlib.Core.Path.{_≡_, refl, ap, sym, _∙_}
 use mathlib.Core.Bool.{Bool, true, false}
 use mathlib.Core.List.{List, []}
-use lib.ListN.{length}
+use lib.ListN.{length, take, length-append}
+use lib.Seq.{take-append-seam}
 use native.Mathlib.Omega.{arith}
 use Rattle.octets.specs.Octets.{blank, Small}
 use Rattle.octets.specs.declared.Answer.{Answer}
+use Rattle.octets.proofs.OctetLaws.{nil-of-length}
+use Rattle.octets.proofs.BoolLaws.{clash, refuted}
 use Rattle.names.specs.Scan.{wellFormed}
-use Rattle.names.specs.Standard.{standardOf}
+use Rattle.names.specs.Standard.{standardOf, inStandardForm}
 use Rattle.names.specs.Name.{nameOf, heldOf}
 use Rattle.names.specs.Answers.{standardAnswer, standardOut}
 use Rattle.names.specs.declared.Name.{Name}
 use Rattle.names.proofs.MergeLaws.{begins-start}
-use Rattle.names.proofs.RoundLaws.{standard-shorter}
+use Rattle.names.proofs.RoundLaws.{standard-shorter, standard-formed, standard-again}
+use Rattle.names.proofs.StandardLaws.{standard-in}
 use Rattle.names.proofs.AnswerLaws.{number-malformed, number-done, refused-answer, refused-out, done-answer, done-out}
 
 -- a standard form has at most 255 octets
@@ -48,3 +52,35 @@ held-is name out a p q = rw (p, q) (go (wellFormed name) refl)
     go false w =
         let e = number-malformed name 255 w in
         rw (refused-out name 255 3 e, refused-answer name 255 3 e, held-malformed name w)
+
+-- what the value tells of the name
+module _ (name : List ℕ) where
+  pub held-some : (heldOf name .length ≡ 0 → ⊥) → wellFormed name ≡ true
+  unfolding nameOf
+  held-some h = go (wellFormed name) refl
+    where
+      go : (b : Bool) → wellFormed name ≡ b → wellFormed name ≡ true
+      go true w = w
+      go false w = absurd (h (ap (λ (n : Name). n .length) (held-malformed name w)))
+
+  pub held-none : Small name → heldOf name .length ≡ 0 → wellFormed name ≡ false
+  unfolding nameOf wellFormed
+  held-none s h = refuted (wellFormed name) (λ w.
+      let l : length (standardOf name) ≡ 0 = ap (λ (n : Name). n .length) (sym (held-formed name w)) ∙ h in
+      clash (ap wellFormed (sym (nil-of-length (standardOf name) l)) ∙ standard-formed name s w) refl)
+
+  pub held-name : wellFormed name ≡ true → take (heldOf name .length) (heldOf name .octets) ≡ standardOf name
+  unfolding nameOf
+  held-name w = rw (held-formed name w) (take-append-seam (standardOf name) (blank (255 - length (standardOf name))))
+
+  pub held-room : heldOf name .length ≤ length (heldOf name .octets)
+  unfolding nameOf
+  held-room = go (wellFormed name) refl
+    where
+      go : (b : Bool) → wellFormed name ≡ b → heldOf name .length ≤ length (heldOf name .octets)
+      go true w = rw (held-formed name w) (omega (arith, length-append (standardOf name) (blank (255 - length (standardOf name)))))
+      go false w = rw (held-malformed name w) (omega arith)
+
+-- the standard form of a name is in standard form
+pub held-standard : (name : List ℕ) → Small name → wellFormed name ≡ true → inStandardForm (standardOf name) ≡ true
+held-standard name s w = standard-in (standardOf name) (standard-formed name s w) (standard-again name s w)

@@ -12,7 +12,8 @@ use Rattle.bits.specs.Bits.{octetsFor, unpack}
 use Rattle.octets.proofs.BoolLaws.{and-true, and-false}
 use Rattle.names.specs.Labels.{ordinary, bits, firstOf, countOf, sizeOf, runOf, labelOf, faultOf}
 use Rattle.names.specs.Scan.{Reading, refused, done, with, scanFrom}
-use Rattle.names.specs.Steps.{unread, found, finish, stillApart}
+use Rattle.names.specs.Answers.{unread, found, finish}
+use Rattle.names.specs.Steps.{stillApart}
 use Rattle.names.proofs.LabelLaws.{count-least, run-bits, size-ordinary}
 
 pub scan-skip : (used run k : ℕ) (xs : List ℕ) → scanFrom used run k xs ≡ scanFrom used run 0 (drop k xs)
@@ -44,17 +45,21 @@ size-least xs = go (eqb (firstOf xs) 65)
     go true = omega arith
     go false = omega arith
 
+-- what follows a label, counted after its first octet
+pub size-drop : (x : ℕ) (xs : List ℕ) → drop (sizeOf (x ∷ xs) - 1) xs ≡ drop (sizeOf (x ∷ xs)) (x ∷ xs)
+size-drop x xs = go (sizeOf (x ∷ xs)) (size-least (x ∷ xs))
+  where
+    go : (k : ℕ) → 0 < k → drop (k - 1) xs ≡ drop k (x ∷ xs)
+    go zero p = let z : ⊥ = omega arith in absurd z
+    go (suc k) p = let q : suc k - 1 ≡ k = omega arith in rw q
+
 pub scan-more : (used run : ℕ) (xs : List ℕ) → 0 < length xs → faultOf used run xs ≡ 0 → (firstOf xs ≡ 0 → ⊥)
     → scanFrom used run 0 xs ≡ with (labelOf xs) (scanFrom (used + sizeOf xs) (runOf run xs) 0 (drop (sizeOf xs) xs))
 unfolding scanFrom
 scan-more used run [] h e f = let z : ⊥ = omega arith in absurd z
 scan-more used run (x ∷ xs) h e f =
     rw (scanFrom, e, ne-eqb x 0 f)
-    (ap (with (labelOf (x ∷ xs))) (scan-skip _ _ (sizeOf (x ∷ xs) - 1) xs ∙ ap (scanFrom (used + sizeOf (x ∷ xs)) (runOf run (x ∷ xs)) 0) (go (sizeOf (x ∷ xs)) (size-least (x ∷ xs)))))
-  where
-    go : (k : ℕ) → 0 < k → drop (k - 1) xs ≡ drop k (x ∷ xs)
-    go zero p = let z : ⊥ = omega arith in absurd z
-    go (suc k) p = let q : suc k - 1 ≡ k = omega arith in rw q
+    (ap (with (labelOf (x ∷ xs))) (scan-skip _ _ (sizeOf (x ∷ xs) - 1) xs ∙ ap (scanFrom (used + sizeOf (x ∷ xs)) (runOf run (x ∷ xs)) 0) (size-drop x xs)))
 
 -- the answer's flag follows the runs
 pub finish-bits : (ok : Bool) (run next : ℕ) (b : List ℕ) (r : Reading) → 0 < next

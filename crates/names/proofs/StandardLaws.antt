@@ -8,7 +8,7 @@ use native.Mathlib.Omega.{arith}
 use Rattle.octets.specs.Octets.{same, Small}
 use Rattle.names.specs.Labels.{Label, ordinary, bits}
 use Rattle.names.specs.Scan.{Reading, refused, done, scanOf, apart, labelsOf, fills, wellFormed}
-use Rattle.names.specs.Steps.{scanned, finish}
+use Rattle.names.specs.Answers.{scanned, finish}
 use Rattle.names.specs.Standard.{units, unitsOf, bitLabel, encodeFrom, encode, standardOf, Same, sameName, inStandardForm}
 use Rattle.names.proofs.Written.{writeLabel, written}
 use Rattle.names.proofs.Merged.{AllFit}

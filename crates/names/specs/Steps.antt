@@ -1,11 +1,9 @@
--- What the scan answers, and what one turn of it finds. `scanned` is for a reader to believe; the rest is the code's own. Assumes nothing.
+-- What one turn of the scan finds: the code's own, nothing that a reader must believe. Assumes nothing.
 use Prim.Native.Nat.{ℕ, zero, suc, _+_}
-use mathlib.Core.Bool.{Bool, true, false, _&&_}
+use mathlib.Core.Bool.{Bool, true, false}
 use mathlib.Core.List.{List}
 use lib.Dec.{eqb}
 use Rattle.names.specs.Labels.{sizeOf, runOf, faultOf}
-use Rattle.names.specs.Scan.{Reading, refused, done, apart}
-use Rattle.names.specs.declared.Scanned.{Scanned}
 use Rattle.names.specs.declared.Step.{Step}
 
 -- one turn: a label that is refused, and a label that ends at a place with so many bits of its run
@@ -27,24 +25,6 @@ unfoldable pub stepOf : ℕ → ℕ → List ℕ → Step
 unfolding stepFor faultOf
 stepOf used run xs = stepFor (faultOf used run xs) used run xs
 
--- the answer to a refused reading, and to one that ended well
-abbrev pub unread : ℕ → Scanned
-unread n = record { number = n; used = 0; standard = false }
-
-abbrev pub found : ℕ → Bool → Scanned
-found used standard = record { number = 0; used = used; standard = standard }
-
--- the answer to a reading of what is left: `ok` if no two bit labels were adjacent so far, `after` if a bit label came just before
-unfoldable pub finish : Bool → Bool → Reading → Scanned
-unfolding apart
-finish ok after (refused n) = unread n
-finish ok after (done ls used) = found used (ok && apart after ls)
-
 -- the flag after a label: `run` bits of a run came before it, and `next` bits are in the run after it
 unfoldable pub stillApart : Bool → ℕ → ℕ → Bool
 stillApart ok run next = elim (eqb run 0) [ true ↦ ok | false ↦ elim (eqb next 0) [ true ↦ ok | false ↦ false ] ]
-
--- what `scan` answers to a reading: the number, the octets used, and whether no two bit labels are adjacent (then the name is in standard form)
-unfoldable pub scanned : Reading → Scanned
-unfolding finish
-scanned r = finish true false r

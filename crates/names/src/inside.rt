@@ -8,7 +8,7 @@ ghost use Rattle.octets.specs.Octets.{blank};
 ghost use Rattle.names.specs.Labels.{countFor};
 ghost use Rattle.names.specs.Scan.{scanOf, wellFormed};
 ghost use Rattle.names.specs.Standard.{standardOf};
-ghost use Rattle.names.specs.Steps.{scanned};
+ghost use Rattle.names.specs.Answers.{scanned};
 
 // The bits that a count octet stands for: 256 is written as 0.
 pub fn count(c: u8) -> usize

@@ -8,8 +8,8 @@ ghost use Rattle.octets.specs.Octets.{same, blank};
 ghost use Rattle.names.specs.Scan.{scanOf, wellFormed};
 ghost use Rattle.names.specs.Standard.{standardOf, sameName, inStandardForm};
 ghost use Rattle.names.specs.Name.{heldOf};
-ghost use Rattle.names.specs.Answers.{standardAnswer, standardOut};
-ghost use Rattle.names.specs.Steps.{stepOf, scanned, unread, broken, stillApart};
+ghost use Rattle.names.specs.Answers.{standardAnswer, standardOut, scanned, unread};
+ghost use Rattle.names.specs.Steps.{stepOf, broken, stillApart};
 ghost use Rattle.bits.specs.Packing.{Clean};
 ghost use Rattle.names.specs.Merge.{Begins, Moved, Ran};
 

@@ -10,6 +10,7 @@ use lib.Seq.{drop-cons}
 use native.Mathlib.Omega.{arith}
 use native.Mathlib.Numerals.{add-one}
 use borrow.Author.Tests.{eq-eqb, ne-eqb, eqb-true, eqb-false}
+use Rattle.octets.proofs.BoolLaws.{and-true}
 use Rattle.octets.specs.Octets.{blank, same}
 use Rattle.octets.specs.Zeros.{isBlank}
 use Rattle.octets.proofs.SameLaws.{same-eq}
@@ -55,8 +56,4 @@ blank-on xs i all h =
 
 pub blank-end : (xs : List ℕ) (i all : ℕ) → length xs ≤ i → eqb all 0 && isBlank (drop i xs) ≡ eqb all 0
 unfolding isBlank same blank
-blank-end xs i all h = rw (drop-of-length-le xs {i = i} h) (go (eqb all 0))
-  where
-    go : (t : Bool) → t && true ≡ t
-    go true = refl
-    go false = refl
+blank-end xs i all h = rw (drop-of-length-le xs {i = i} h) (and-true (eqb all 0))

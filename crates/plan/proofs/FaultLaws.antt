@@ -1,12 +1,13 @@
 -- Laws of a record's faults: the fields in their order, and what a record without a fault is like. Assumes nothing.
 use Prim.Native.Nat.{ℕ}
 use mathlib.Core.Path.{_≡_, refl, ap, _∙_, sym}
-use mathlib.Core.Bool.{Bool, true, false, not, _&&_}
+use mathlib.Core.Bool.{Bool, true, false, not}
 use mathlib.Core.List.{List}
 use mathlib.Core.Logic.{_⊎_, inl, inr}
 use lib.Dec.{leb, eqb}
 use native.Mathlib.Omega.{arith}
 use borrow.Author.Tests.{eq-eqb, ne-eqb, eqb-true, eqb-false, le-leb, leb-true, not-false}
+use Rattle.octets.proofs.BoolLaws.{and-false}
 use Rattle.octets.proofs.SmallLaws.{earns-zero}
 use Rattle.octets.specs.Octets.{blank, same}
 use Rattle.octets.proofs.SameLaws.{same-eq, same-refl}
@@ -106,11 +107,7 @@ module _ (r : List ℕ) where
 
   pub targetless-on : (prefixOf r ≡ 0 → ⊥) → targetless r ≡ false
   unfolding targetless
-  targetless-on h = rw (ne-eqb (prefixOf r) 0 h) (go (isA6 r))
-    where
-      go : (t : Bool) → t && false ≡ false
-      go true = refl
-      go false = refl
+  targetless-on h = rw (ne-eqb (prefixOf r) 0 h) (and-false (isA6 r))
 
   pub target-none : targetless r ≡ true → targetGood r ≡ slotEmpty (targetSlot r)
   unfolding targetGood

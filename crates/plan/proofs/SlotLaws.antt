@@ -1,11 +1,12 @@
 -- Laws of slots. Assumes nothing.
 use Prim.Native.Nat.{ℕ, _+_, _-_, _≤_, _<_}
 use mathlib.Core.Path.{_≡_, refl, ap, _∙_, sym}
-use mathlib.Core.Bool.{Bool, true, false, _&&_}
+use mathlib.Core.Bool.{Bool, true, false}
 use mathlib.Core.List.{List, [], _∷_, _++_}
 use lib.ListN.{length, getD, take, drop, length-append, length-drop, take-append-drop}
 use lib.Seq.{paste, length-take-le, take-length, take-append-seam, drop-drop, drop-cons, drop-at}
 use native.Mathlib.Omega.{arith}
+use Rattle.octets.proofs.BoolLaws.{and-false, and-true}
 use Rattle.octets.specs.Octets.{blank, same, Small}
 use Rattle.octets.specs.Zeros.{isBlank}
 use Rattle.octets.proofs.OctetLaws.{length-blank, drop-blank, small-take, small-drop}
@@ -65,19 +66,11 @@ module _ (s : List ℕ) (l : length s ≡ slotSize) (o : getD s 0 0 < 256) where
   -- a slot holds a good name when its fill is zero and its name is in standard form
   pub slot-loose : isBlank (fillIn s) ≡ false → slotGood s ≡ false
   unfolding slotGood
-  slot-loose b = rw (filled-same, b) (go (inStandardForm (nameIn s)))
-    where
-      go : (t : Bool) → t && false ≡ false
-      go true = refl
-      go false = refl
+  slot-loose b = rw (filled-same, b) (and-false (inStandardForm (nameIn s)))
 
   pub slot-filled : isBlank (fillIn s) ≡ true → slotGood s ≡ inStandardForm (nameIn s)
   unfolding slotGood
-  slot-filled b = rw (filled-same, b) (go (inStandardForm (nameIn s)))
-    where
-      go : (t : Bool) → t && true ≡ t
-      go true = refl
-      go false = refl
+  slot-filled b = rw (filled-same, b) (and-true (inStandardForm (nameIn s)))
 
 pub name-small : (s : List ℕ) → Small s → Small (nameIn s)
 unfolding nameIn

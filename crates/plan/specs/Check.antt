@@ -11,24 +11,7 @@ use Rattle.octets.specs.declared.Answer.{Answer}
 use Rattle.names.specs.Standard.{sameName, inStandardForm}
 use Rattle.address.specs.Address.{clearTo}
 use Rattle.plan.specs.First.{firstFrom, first, some}
-use Rattle.plan.specs.Layout.{
-  recordSize,
-  maxRecords,
-  slotSize,
-  typeOf,
-  prefixOf,
-  zeroOf,
-  addressOf,
-  ownerSlot,
-  targetSlot,
-  nameIn,
-  slotOf,
-  isA6,
-  isDname,
-  countOf,
-  recordAt,
-  ownerAt,
-}
+use Rattle.plan.specs.Layout.{recordSize, maxRecords, slotSize, prefixOf, zeroOf, addressOf, ownerSlot, targetSlot, nameIn, slotOf, isA6, isDname, countOf, recordAt, ownerAt}
 
 -- the slot holds a name in standard form that fills the length, and zeros after it
 unfoldable pub slotGood : List ℕ → Bool

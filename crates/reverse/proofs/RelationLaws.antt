@@ -13,7 +13,7 @@ use Rattle.names.specs.Standard.{Unit}
 use Rattle.rewriting.specs.Rewrite.{Applies, belowOf, rewriteOf}
 use Rattle.reverse.specs.Walk.{Rule, Due, none, due, better, dueFrom, dueOf}
 use Rattle.reverse.specs.Relation.{In, Settled, Rewrites, OneTarget}
-use Rattle.rewriting.proofs.ApplyLaws.{applies-below, below-applies}
+use Rattle.rewriting.proofs.ApplyLaws.{applies-below, below-applies, below-none}
 
 -- two rules that apply and have as many units in their owners have the same owner
 pub no-tie : (o p name b c : List Unit) → Applies o name b → Applies p name c → length o ≡ length p → o ≡ p
@@ -95,9 +95,7 @@ clash k t e = let z : _≡_ {A = ℕ} 0 1 = cc in let y : ⊥ = omega arith in a
 pub due-none : (rules : List Rule) (name : List Unit) → dueOf rules name ≡ none → Settled rules name
 unfolding dueOf
 due-none rules name e r i below a =
-    let g : belowOf (r .owner) name ≡ 0 = rw e at (due-all none rules name r i) in
-    let l = applies-below (r .owner) name below a in
-    omega (arith, a .strict)
+    below-none (r .owner) name below (rw e at (due-all none rules name r i)) a
 
 -- a rewrite that is due is one of the relation
 pub due-some : (rules : List Rule) (name : List Unit) (k : ℕ) (t : List Unit) → dueOf rules name ≡ due k t → Rewrites rules name (rewriteOf k name t)
@@ -122,8 +120,7 @@ due-some rules name k t e = ⊎-elim (λ q. clash k t (sym q ∙ e)) go (due-com
               let m = applies-below (r .owner) name under b in
               let g : (belowOf (r .owner) name ≡ 0) ⊎ (k ≤ belowOf (r .owner) name) = rw e at (due-all none rules name r i) in
               let v = ap length (b .whole) ∙ length-append under (r .owner) in
-              let s = b .strict in
-              ⊎-elim (λ z. let y : ⊥ = omega arith in absurd y) (λ h. omega arith) g;
+              ⊎-elim (λ z. absurd (below-none (r .owner) name under z b)) (λ h. omega arith) g;
           result = rw (n, u);
         }
 

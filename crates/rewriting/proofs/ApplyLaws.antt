@@ -75,6 +75,10 @@ applies-below owner name below a =
     let d : drop (length below) name ≡ owner = ap (drop (length below)) (a .whole) ∙ drop-front below owner in
     below-yes owner name (rw e d) ∙ e
 
+-- where belowOf is 0 the DNAME does not apply, whatever is thought to be below
+pub below-none : (owner name below : List Unit) → belowOf owner name ≡ 0 → Applies owner name below → ⊥
+below-none owner name below z a = omega (arith, applies-below owner name below a, a .strict)
+
 -- and where belowOf is not 0 the DNAME applies, to what the rewrite keeps
 pub below-applies : (owner name : List Unit) → 0 < belowOf owner name → Applies owner name (take (belowOf owner name) name)
 unfolding belowOf

@@ -7,7 +7,7 @@ use mathlib.Core.List.{List, [], _∷_, _++_, append-assoc}
 use native.Mathlib.Decide.{decLt}
 use native.Mathlib.Omega.{arith}
 use lib.ListN.{length, getD, take, drop, length-append, length-take, length-drop, replicate-append-replicate}
-use lib.Seq.{drop-cons, take-at, drop-at, take-append-add, drop-append-add}
+use lib.Seq.{take-at, drop-at, drop-append-add}
 use Rattle.octets.proofs.FlatLaws.{each-drop, flat-length, flat-append, flat-take, flat-drop, flat-at}
 use Rattle.chains.proofs.ListLaws.{in-at}
 use Rattle.octets.specs.Octets.{blank, flat, Each}

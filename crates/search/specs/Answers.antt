@@ -1,6 +1,6 @@
 -- What a lookup answers once its input is in order (01, What comes back): 6, 7, or the addresses. Assumes nothing.
 use Prim.Native.Nat.{ℕ, zero, suc, _-_, _*_, _/_}
-use mathlib.Core.List.{List, [], _∷_, _++_}
+use mathlib.Core.List.{List, _++_}
 use lib.Dec.{ltb}
 use lib.ListN.{length}
 use Rattle.octets.specs.declared.Answer.{Answer}

@@ -5,6 +5,7 @@ use Prim.Native.Nat.{ℕ}
 use mathlib.Core.List.{List}
 use lib.ListN.{length, take}
 use lib.Seq.{length-take-le}
+use Rattle.names.proofs.NameLaws.{held-none, held-some, held-name, held-standard, held-room}
 use Rattle.octets.specs.Octets.{Small}
 use Rattle.names.specs.Standard.{standardOf}
 use Rattle.names.specs.Name.{heldOf}
@@ -12,23 +13,7 @@ use Rattle.names.specs.declared.Name.{Name}
 use Rattle.names.proofs.RoundLaws.{standard-formed, standard-again}
 use Rattle.plan.specs.Check.{InOrder}
 use Rattle.collapse.specs.Collapse.{numberOf, collapseAnswer, collapseOut}
-use Rattle.collapse.proofs.CollapseLaws.{
-  number-table,
-  number-name,
-  number-output,
-  refused-answer,
-  refused-out,
-  turned-answer,
-  turned-out,
-  answer-same,
-  out-same,
-  held-none,
-  held-some,
-  held-name,
-  held-standard,
-  held-room,
-  checked,
-}
+use Rattle.collapse.proofs.CollapseLaws.{number-table, number-name, number-output, refused-answer, refused-out, turned-answer, turned-out, answer-same, out-same, checked}
 use borrow.Author.Needs.{needs}
 use Rattle.collapse.proofs.collapse.Statement.{statement}
 use Rattle.collapse.proofs.collapse.Tie as tie
@@ -91,7 +76,7 @@ returns-3 c =
     let size = length (a .out .now) in
     let o : InOrder t = sym (checked t (c .before .before .before .before .before .before .before .before .before .before .check .result) (c .before .before .before .before .before .before .before .before .before .before .check .ensures)) ∙ c .before .before .before .before .before .before .before .before .before .if1 .left in
     let l : heldOf x .length ≡ 0 → ⊥ = λ z. c .before .before .before .before .before .if2 .left (c .before .before .before .before .before .before .wide .ensures .0 ∙ ap (λ (v : Name). v .length) (c .before .before .before .before .before .before .before .before .hold .ensures) ∙ z) in
-    let e = number-output t x size o (held-some x (λ i. omega (arith, c .before .before .before .before .before .before .before .before .before .before .before .before .shared-slice-known2 .given i)) l) (c .before .before .before .before .if3 .taken) in
+    let e = number-output t x size o (held-some x l) (c .before .before .before .before .if3 .taken) in
     (c .before .before .refuse3 .ensures .0 ∙ sym (refused-answer t x size 4 e), c .before .before .refuse3 .ensures .1 ∙ sym (refused-out t x size 4 e))
 
 array-share-prefix-standard : tie.Need-array-share-prefix-standard
@@ -115,8 +100,8 @@ fold-requires c κs =
     let e = c .before .before .before .before .before .before .hold .ensures in
     let l = c .before .before .before .before .wide .ensures .0 ∙ ap (λ (v : Name). v .length) e in
     let o : InOrder t = sym (checked t (c .before .before .before .before .before .before .before .before .check .result) (c .before .before .before .before .before .before .before .before .check .ensures)) ∙ c .before .before .before .before .before .before .before .if1 .left in
-    let f = held-some x s (λ z. c .before .before .before .if2 .left (l ∙ z)) in
-    (o, rw (ap₂ take l (ap (λ (v : Name). v .octets) e) ∙ held-name x s f) (held-standard x s f), c .before .before .if3 .left)
+    let f = held-some x (λ z. c .before .before .before .if2 .left (l ∙ z)) in
+    (o, rw (ap₂ take l (ap (λ (v : Name). v .octets) e) ∙ held-name x f) (held-standard x s f), c .before .before .if3 .left)
 
 same-length-4 : tie.Need-same-length-4
 same-length-4 c = search needs
@@ -130,8 +115,8 @@ returns-4 c =
     let s : Small x = λ i. omega (arith, c .before .before .before .before .before .before .before .before .before .before .before .before .before .shared-slice-known2 .given i) in
     let e = c .before .before .before .before .before .before .before .before .before .hold .ensures in
     let l = c .before .before .before .before .before .before .before .wide .ensures .0 ∙ ap (λ (v : Name). v .length) e in
-    let f = held-some x s (λ z. c .before .before .before .before .before .before .if2 .left (l ∙ z)) in
-    let h = ap₂ take l (ap (λ (v : Name). v .octets) e) ∙ held-name x s f in
+    let f = held-some x (λ z. c .before .before .before .before .before .before .if2 .left (l ∙ z)) in
+    let h = ap₂ take l (ap (λ (v : Name). v .octets) e) ∙ held-name x f in
     let g = standard-again x s f in
     let m = standard-formed x s f ∙ sym f in (
       c .before .before .fold .ensures .0 ∙ ap (λ (y : List ℕ). collapseAnswer t y size) h ∙ answer-same t (standardOf x) x size g m,

@@ -5,6 +5,7 @@ use mathlib.Core.Bool.{true}
 use lib.ListN.{length, take}
 use lib.Seq.{length-take-le}
 use native.Mathlib.Omega.{arith}
+use Rattle.names.proofs.NameLaws.{held-some, held-none, held-name}
 use Rattle.octets.specs.Octets.{blank, Small}
 use Rattle.octets.specs.declared.Answer.{Answer}
 use Rattle.names.specs.declared.Name.{Name}
@@ -15,7 +16,7 @@ use Rattle.names.proofs.RoundLaws.{standard-formed, standard-again}
 use Rattle.names.proofs.StandardLaws.{standard-in}
 use Rattle.plan.specs.Check.{checkOf}
 use Rattle.plan.proofs.OrderLaws.{number-answer}
-use Rattle.forward.proofs.LookupLaws.{lookup-table, lookup-name, lookup-size, lookup-refused, lookup-refusing, lookup-answered, lookup-written, held-well, held-not, held-name}
+use Rattle.forward.proofs.LookupLaws.{lookup-table, lookup-name, lookup-size, lookup-refused, lookup-refusing, lookup-answered, lookup-written}
 use borrow.Author.Needs.{needs}
 use Rattle.forward.proofs.lookup.Statement.{statement}
 use Rattle.forward.proofs.lookup.Tie as tie
@@ -72,7 +73,7 @@ returns-2 c =
     let a = c .before .before .before .before .before .before .before .before .before .before .before .before .before .before .args in
     let size = length (a .out .now) in
     let o : checkOf (a .table .now) ≡ 0 = sym (checked (c .before .before .before .before .before .before)) ∙ c .before .before .before .before .before .if1 .left in
-    let w = held-not (a .name .now) (λ i. omega (arith, c .before .before .before .before .before .before .before .before .before .before .before .before .shared-slice-known2 .given i)) (sym (held-length (c .before .before)) ∙ c .before .if2 .taken) in
+    let w = held-none (a .name .now) (λ i. omega (arith, c .before .before .before .before .before .before .before .before .before .before .before .before .shared-slice-known2 .given i)) (sym (held-length (c .before .before)) ∙ c .before .if2 .taken) in
     let p = lookup-refused (a .table .now) (a .name .now) (a .limit) size 3 (lookup-name (a .table .now) (a .name .now) (a .limit) size o w) in
     (c .refused2 .ensures ∙ p .0, c .before .before .before .before .before .before .before .before .before .clear .ensures ∙ p .1)
 
@@ -87,7 +88,7 @@ returns-3 c =
     let a = c .before .before .before .before .before .before .before .before .before .before .before .before .before .before .before .args in
     let size = length (a .out .now) in
     let o : checkOf (a .table .now) ≡ 0 = sym (checked (c .before .before .before .before .before .before .before)) ∙ c .before .before .before .before .before .before .if1 .left in
-    let w = held-well (a .name .now) (λ h. c .before .before .if2 .left (held-length (c .before .before .before) ∙ h)) in
+    let w = held-some (a .name .now) (λ h. c .before .before .if2 .left (held-length (c .before .before .before) ∙ h)) in
     let z : size % 16 ≡ 0 → ⊥ = λ h. c .before .if3 .taken (ap (λ (k : ℕ). k % 16) (c .before .before .before .before .before .before .before .before .before .before .clear .kept .0) ∙ h) in
     let p = lookup-refused (a .table .now) (a .name .now) (a .limit) size 4 (lookup-size (a .table .now) (a .name .now) (a .limit) size o w z) in
     (c .refused3 .ensures ∙ p .0, c .before .before .before .before .before .before .before .before .before .before .clear .ensures ∙ p .1)
@@ -103,7 +104,7 @@ look-requires c κs =
     let a = c .before .before .before .before .before .before .before .before .before .before .before .before .before .before .before .before .args in
     let o : checkOf (a .table .now) ≡ 0 = sym (checked (c .before .before .before .before .before .before .before .before)) ∙ c .before .before .before .before .before .before .before .if1 .left in
     let s : Small (a .name .now) = λ i. omega (arith, c .before .before .before .before .before .before .before .before .before .before .before .before .before .before .shared-slice-known2 .given i) in
-    let w = held-well (a .name .now) (λ h. c .before .before .before .if2 .left (held-length (c .before .before .before .before) ∙ h)) in
+    let w = held-some (a .name .now) (λ h. c .before .before .before .if2 .left (held-length (c .before .before .before .before) ∙ h)) in
     let k : length (c .before .before .before .before .before .before .before .before .before .before .before .clear .last .0) ≡ length (a .out .now) = c .before .before .before .before .before .before .before .before .before .before .before .clear .kept .0 in (
       (o, rw (part (c .before .before .before .before) w) (standard-in (standardOf (a .name .now)) (standard-formed (a .name .now) s w) (standard-again (a .name .now) s w))),
       (c .before .before .if3 .left, c .before .before .before .before .before .before .before .before .before .before .before .clear .ensures ∙ ap blank (sym k)),
@@ -118,7 +119,7 @@ returns-4 c =
     let size = length (a .out .now) in
     let o : checkOf (a .table .now) ≡ 0 = sym (checked (c .before .before .before .before .before .before .before .before .before .before .before)) ∙ c .before .before .before .before .before .before .before .before .before .before .if1 .left in
     let s : Small (a .name .now) = λ i. omega (arith, c .before .before .before .before .before .before .before .before .before .before .before .before .before .before .before .before .before .shared-slice-known2 .given i) in
-    let w = held-well (a .name .now) (λ h. c .before .before .before .before .before .before .if2 .left (held-length (c .before .before .before .before .before .before .before) ∙ h)) in
+    let w = held-some (a .name .now) (λ h. c .before .before .before .before .before .before .if2 .left (held-length (c .before .before .before .before .before .before .before) ∙ h)) in
     let k : length (c .before .before .before .before .before .before .before .before .before .before .before .before .before .before .clear .last .0) ≡ size = c .before .before .before .before .before .before .before .before .before .before .before .before .before .before .clear .kept .0 in
     let z : size % 16 ≡ 0 = ap (λ (n : ℕ). n % 16) (sym k) ∙ c .before .before .before .before .before .if3 .left in
     let e = rw (part (c .before .before .before .before .before .before .before) w, k) at (c .before .before .look .ensures) in (

@@ -7,7 +7,7 @@ use native.Mathlib.Omega.{arith}
 use Rattle.names.specs.declared.Step.{Step}
 use Rattle.names.specs.Labels.{firstOf, sizeOf, runOf, faultOf}
 use Rattle.names.specs.Scan.{scanFrom, scanOf}
-use Rattle.names.specs.Steps.{unread, found, finish, scanned}
+use Rattle.names.specs.Answers.{unread, found, finish, scanned}
 use Rattle.names.proofs.LabelLaws.{fault-sound, step-number, step-none, first-at}
 use Rattle.names.proofs.ScanLaws.{size-least, turn-missing, turn-refused, turn-end, turn-on}
 use borrow.Author.Needs.{needs}
