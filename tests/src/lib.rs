@@ -14,4 +14,5 @@ pub mod plain;
 pub mod reference;
 pub mod soak;
 pub mod text;
+pub mod tree;
 pub mod vectors;

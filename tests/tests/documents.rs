@@ -1,17 +1,9 @@
 //! What the documents say of the tree is so: the files that have to be believed are all there and all of them, every
 //! wrong answer that is tried is listed, and every public function has its line in demand 1.
 
+use a6plan_tests::tree::{repository, text_of};
 use std::collections::BTreeSet;
 use std::fs;
-use std::path::PathBuf;
-
-fn repository() -> PathBuf {
-    PathBuf::from(env!("CARGO_MANIFEST_DIR")).join("..")
-}
-
-fn text_of(file: &str) -> String {
-    fs::read_to_string(repository().join(file)).unwrap_or_else(|error| panic!("{file}: {error}"))
-}
 
 /// The names of a folder's files that end so, without the ending.
 fn names_in(folder: &str, ending: &str) -> Vec<String> {

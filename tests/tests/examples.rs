@@ -1,17 +1,9 @@
 //! The examples and commands of README: its code is that of the files in examples/, which are compiled and run as it
 //! says, and print what it says.
 
-use std::fs;
+use a6plan_tests::tree::{repository, text_of};
 use std::path::{Path, PathBuf};
 use std::process::{Command, Output};
-
-fn repository() -> PathBuf {
-    PathBuf::from(env!("CARGO_MANIFEST_DIR")).join("..")
-}
-
-fn text_of(file: &str) -> String {
-    fs::read_to_string(repository().join(file)).unwrap_or_else(|error| panic!("{file}: {error}"))
-}
 
 /// What a command that ends well prints.
 fn printed(command: &mut Command) -> String {

@@ -1,15 +1,14 @@
 //! The C header declares what the crate `a6plan` exports, with the same types in the same order.
 
+use a6plan_tests::tree::text_of;
 use std::collections::BTreeMap;
-use std::fs;
 
 /// The types of each function's parameters, by its name.
 type Functions = BTreeMap<String, Vec<String>>;
 
 /// The functions of a file: their names follow `before`, and `types` gives the C types of one parameter.
 fn functions(file: &str, before: &str, types: impl Fn(&str) -> Vec<String>) -> Functions {
-    let path = format!("{}/../{file}", env!("CARGO_MANIFEST_DIR"));
-    let text = fs::read_to_string(path).expect("the file is there");
+    let text = text_of(file);
     let function = |text: &str| {
         let (name, rest) = text.split_once('(').expect("parameters");
         let (parameters, _) = rest.split_once(')').expect("the end of the parameters");

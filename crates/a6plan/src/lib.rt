@@ -80,7 +80,8 @@ pub extern "C" fn a6plan_check(table: &[u8]) -> u32
     ensures { λ r. ⌜ r ≡ checkOf (now (table .entry)) ⌝ }
 {
     let answer = plan::check(table);
-    answer.number as u32
+    let number = answer.number;
+    number as u32
 }
 
 // The part of the table that the owner of a record takes; figures: where it starts and its length, both 0 for the empty part.

@@ -13,7 +13,7 @@ cast-result : tie.Need-cast-result
 cast-result c = search needs
 
 returns : tie.Need-returns
-returns c = ap (λ (a : Answer). a .number) (c .before .check .ensures) ∙ number-answer (c .before .before .before .args .table .now)
+returns c = ap (λ (a : Answer). a .number) (c .check .ensures) ∙ number-answer (c .before .before .args .table .now)
 
 pub a6plan-check-spec : {M : Type 1} → statement M
 a6plan-check-spec = tie.close (tie.spec check-requires cast-result returns)
