@@ -13,11 +13,11 @@ use Rattle.octets.specs.Octets.{blank, Small}
 use Rattle.octets.specs.Answers.{earns}
 use Rattle.octets.proofs.OctetLaws.{length-blank, small-drop, small-take, drop-blank}
 use Rattle.octets.proofs.SmallLaws.{earns-zero, earns-own}
-use Rattle.names.specs.Scan.{scanOf, wellFormed}
+use Rattle.labels.specs.Scan.{scanOf, wellFormed}
 use Rattle.names.specs.Standard.{standardOf}
-use Rattle.names.specs.Answers.{scanned, found}
+use Rattle.labels.specs.Answers.{scanned, found}
 use Rattle.names.specs.Name.{nameOf, heldOf}
-use Rattle.names.specs.declared.Scanned.{Scanned}
+use Rattle.labels.specs.declared.Scanned.{Scanned}
 use Rattle.names.specs.declared.Name.{Name}
 use Rattle.names.proofs.AnswerLaws.{form-good}
 use Rattle.names.proofs.FrontLaws.{scan-inside}

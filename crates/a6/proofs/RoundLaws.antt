@@ -13,12 +13,12 @@ use Rattle.octets.specs.Octets.{blank, Small}
 use Rattle.octets.proofs.OctetLaws.{length-blank, small-drop, small-take, nil-of-length}
 use Rattle.octets.proofs.SmallLaws.{small-cons, small-append}
 use Rattle.octets.proofs.ZeroLaws.{blank-eq}
-use Rattle.names.specs.Scan.{scanOf}
-use Rattle.names.specs.Answers.{scanned}
+use Rattle.labels.specs.Scan.{scanOf}
+use Rattle.labels.specs.Answers.{scanned}
 use Rattle.names.specs.Standard.{standardOf}
 use Rattle.names.specs.Name.{nameOf, heldOf}
 use Rattle.names.specs.declared.Name.{Name}
-use Rattle.names.specs.declared.Scanned.{Scanned}
+use Rattle.labels.specs.declared.Scanned.{Scanned}
 use Rattle.names.proofs.FrontLaws.{formed-scan}
 use Rattle.names.proofs.NameLaws.{held-formed}
 use Rattle.names.proofs.RoundLaws.{standard-formed, standard-again}

@@ -6,10 +6,10 @@ use lib.Dec.{ltb, eqb}
 use lib.ListN.{length, take}
 use Rattle.octets.specs.Octets.{blank}
 use Rattle.octets.specs.Answers.{earns}
-use Rattle.names.specs.Scan.{scanOf}
-use Rattle.names.specs.Answers.{scanned, found}
+use Rattle.labels.specs.Scan.{scanOf}
+use Rattle.labels.specs.Answers.{scanned, found}
 use Rattle.names.specs.Name.{nameOf, heldOf}
-use Rattle.names.specs.declared.Scanned.{Scanned}
+use Rattle.labels.specs.declared.Scanned.{Scanned}
 use Rattle.names.specs.declared.Name.{Name}
 use Rattle.address.specs.Address.{joinOf}
 use Rattle.a6.specs.Data.{longest, suffixOctets, prefixOf, suffixOf, afterSuffix, blankValue}

@@ -35,7 +35,7 @@ pub fn check(rdata: &[u8]) -> Checked
             standard: true,
         };
     }
-    let t = names::scan(&rdata[at..]);
+    let t = labels::scan(&rdata[at..]);
     let number = t.number;
     let used = t.used;
     let standard = t.standard;

@@ -11,7 +11,7 @@ use Rattle.octets.proofs.BoolLaws.{or-true}
 use Rattle.octets.specs.Octets.{blank, flat}
 use Rattle.octets.specs.Answers.{answering, refusal}
 use Rattle.octets.specs.declared.Answer.{Answer}
-use Rattle.names.specs.Scan.{wellFormed}
+use Rattle.labels.specs.Scan.{wellFormed}
 use Rattle.names.specs.Standard.{standardOf}
 use Rattle.plan.specs.Layout.{recordSize, maxRecords}
 use Rattle.plan.specs.Check.{checkOf, checkAnswer, InOrder}

@@ -12,7 +12,7 @@ use borrow.Author.Tests.{ltb-true, ltb-false, eqb-true, eqb-false}
 use Rattle.octets.proofs.BoolLaws.{clash, refuted}
 use Rattle.octets.specs.Octets.{blank, flat}
 use Rattle.octets.specs.declared.Answer.{Answer}
-use Rattle.names.specs.Scan.{wellFormed}
+use Rattle.labels.specs.Scan.{wellFormed}
 use Rattle.chains.specs.Chain.{Spells}
 use Rattle.plan.specs.Layout.{recordSize, maxRecords}
 use Rattle.plan.specs.Check.{InOrder}

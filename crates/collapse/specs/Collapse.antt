@@ -7,7 +7,7 @@ use lib.ListN.{length}
 use Rattle.octets.specs.Octets.{blank, flat}
 use Rattle.octets.specs.Answers.{earns, answering, refusal}
 use Rattle.octets.specs.declared.Answer.{Answer}
-use Rattle.names.specs.Scan.{wellFormed}
+use Rattle.labels.specs.Scan.{wellFormed}
 use Rattle.plan.specs.Layout.{recordSize, maxRecords}
 use Rattle.plan.specs.Check.{checkOf}
 use Rattle.collapse.specs.Fold.{foldOf, reviving}

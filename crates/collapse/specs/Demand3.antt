@@ -8,7 +8,7 @@ use lib.ListN.{length, take}
 use Rattle.octets.specs.Octets.{blank, flat}
 use Rattle.octets.specs.Answers.{answering}
 use Rattle.octets.specs.declared.Answer.{Answer}
-use Rattle.names.specs.Scan.{wellFormed}
+use Rattle.labels.specs.Scan.{wellFormed}
 use Rattle.chains.specs.Chain.{Spells}
 use Rattle.plan.specs.Graph.{graphOf}
 use Rattle.plan.specs.Layout.{recordSize, maxRecords, countOf}

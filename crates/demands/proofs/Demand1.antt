@@ -25,17 +25,18 @@ use Rattle.address.specs.declared.Order.{Order}
 use Rattle.address.proofs.join.Reads as join
 use Rattle.address.proofs.compare.Reads as compare
 use Rattle.address.proofs.is_clear.Reads as is-clear
-use Rattle.names.specs.Scan as scans
-use Rattle.names.specs.Scan.{scanOf}
+use Rattle.labels.specs.Scan as scans
+use Rattle.labels.specs.Scan.{scanOf}
 use Rattle.names.specs.Standard.{sameName, inStandardForm}
 use Rattle.names.specs.Name.{nameOf, heldOf}
 use Rattle.names.specs.Answers as standards
-use Rattle.names.specs.Answers.{standardNumber, standardAnswer, standardOut, scanned, finish}
-use Rattle.names.specs.declared.Scanned.{Scanned}
+use Rattle.labels.specs.Answers.{scanned, finish}
+use Rattle.names.specs.Answers.{standardNumber, standardAnswer, standardOut}
+use Rattle.labels.specs.declared.Scanned.{Scanned}
 use Rattle.names.specs.declared.Name.{Name}
 use Rattle.names.proofs.standard_form.Reads as standard-form
 use Rattle.names.proofs.equal.Reads as equal
-use Rattle.names.proofs.scan.Reads as scan
+use Rattle.labels.proofs.scan.Reads as scan
 use Rattle.names.proofs.is_standard.Reads as is-standard
 use Rattle.names.proofs.hold.Reads as hold
 use Rattle.a6.specs.Data.{blankValue}
@@ -110,7 +111,10 @@ pub address-is-clear : (κs : Lfts 1) (a : RefT (List ℕ)) (n : ℕ) (r : Bool)
     → Promises (is-clear.Asked κs) (is-clear.Learnt κs) (a, (n, tt)) r (a, (n, tt)) (r ≡ clearTo n (now a))
 address-is-clear κs a n r = plainly
 
--- ---- names
+-- ---- labels and names
+pub labels-scan : (κs : Lfts 1) (s : RefT (List ℕ)) (r : Scanned) → Promises (scan.Asked κs) (scan.Learnt κs) (s, tt) r (s, tt) (r ≡ scanned (scanOf (now s)))
+labels-scan κs s r = plainly
+
 pub names-standard-form : (κs : Lfts 2) (name out end : RefT (List ℕ)) (r : Answer)
     → Promises (standard-form.Asked κs) (standard-form.Learnt κs) (name, (out, tt)) r (name, (end, tt))
     ((r ≡ standardAnswer (now name) (length (now out))) × (now end ≡ standardOut (now name) (length (now out))))
@@ -120,9 +124,6 @@ pub names-equal : (κs : Lfts 2) (a b : RefT (List ℕ)) (r : Bool)
     → Promises (equal.Asked κs) (equal.Learnt κs) (a, (b, tt)) r (a, (b, tt))
     ((r ≡ same (now a) (now b)) × (inStandardForm (now a) ≡ true → inStandardForm (now b) ≡ true → r ≡ sameName (now a) (now b)))
 names-equal κs a b r = plainly
-
-pub names-scan : (κs : Lfts 1) (s : RefT (List ℕ)) (r : Scanned) → Promises (scan.Asked κs) (scan.Learnt κs) (s, tt) r (s, tt) (r ≡ scanned (scanOf (now s)))
-names-scan κs s r = plainly
 
 pub names-is-standard : (κs : Lfts 1) (name : RefT (List ℕ)) (r : Bool)
     → Promises (is-standard.Asked κs) (is-standard.Learnt κs) (name, tt) r (name, tt) (r ≡ inStandardForm (now name))

@@ -11,7 +11,7 @@ use borrow.Author.Tests.{ltb-true, ltb-false}
 use Rattle.octets.specs.Octets.{blank, Small}
 use Rattle.octets.specs.Answers.{answering}
 use Rattle.octets.specs.declared.Answer.{Answer}
-use Rattle.names.specs.Scan.{wellFormed}
+use Rattle.labels.specs.Scan.{wellFormed}
 use Rattle.plan.specs.Layout.{addressSize}
 use Rattle.plan.specs.Check.{InOrder}
 use Rattle.plan.specs.Graph.{graphOf}

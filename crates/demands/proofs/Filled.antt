@@ -12,7 +12,7 @@ use Rattle.octets.proofs.FlatLaws.{each-at, flat-length}
 use Rattle.octets.specs.Octets.{blank, Small, flat}
 use Rattle.octets.proofs.OctetLaws.{length-blank}
 use Rattle.octets.proofs.SmallLaws.{earns-zero, earns-own}
-use Rattle.names.specs.Scan.{wellFormed}
+use Rattle.labels.specs.Scan.{wellFormed}
 use Rattle.names.specs.Standard.{Unit, standardOf, encode}
 use Rattle.names.specs.Answers.{standardNumber, standardOut}
 use Rattle.names.proofs.AnswerLaws as names

@@ -125,7 +125,7 @@ fn bits(name: &[u8], at: usize) -> usize
     if name.len() - at < 2 {
         return name.len();
     }
-    let count = names::inside::count(name[at + 1]);
+    let count = labels::inside::count(name[at + 1]);
     let a = at + 2;
     let e = a + (count + 7) / 8;
     if name.len() < e {

@@ -243,7 +243,7 @@ fn put_bits(digits: &[u8], count: u8, out: &mut [u8], to: usize) -> usize
     requires { ⌜ (length (now out) ≡ 255) × (to < 255) ⌝ }
     ensures { λ r. ⌜ r < 255 ⌝ }
 {
-    let e = to + 2 + (names::inside::count(count) + 7) / 8;
+    let e = to + 2 + (labels::inside::count(count) + 7) / 8;
     if 254 < e {
         return to;
     }

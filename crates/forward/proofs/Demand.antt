@@ -6,7 +6,7 @@ use mathlib.Core.List.{List}
 use lib.ListN.{length}
 use borrow.Author.Tests.{lt-ltb, le-ltb}
 use Rattle.octets.specs.Octets.{Small}
-use Rattle.names.specs.Scan.{wellFormed}
+use Rattle.labels.specs.Scan.{wellFormed}
 use Rattle.chains.specs.Listing.{chainsOf, workOf}
 use Rattle.chains.specs.Addresses.{addressesOf}
 use Rattle.chains.proofs.Listed.{listed-once}

@@ -10,7 +10,7 @@ use native.Mathlib.Omega.{arith}
 use borrow.Author.Tests.{ne-eqb, eq-eqb}
 use Rattle.octets.specs.Octets.{blank, Small}
 use Rattle.octets.specs.Answers.{refusal}
-use Rattle.names.specs.Scan.{wellFormed}
+use Rattle.labels.specs.Scan.{wellFormed}
 use Rattle.names.specs.Standard.{standardOf}
 use Rattle.chains.specs.Lists.{pick}
 use Rattle.chains.specs.Graph.{Graph}

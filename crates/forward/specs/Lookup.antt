@@ -5,7 +5,7 @@ use mathlib.Core.List.{List}
 use lib.Dec.{eqb}
 use Rattle.octets.specs.Answers.{earns}
 use Rattle.octets.specs.declared.Answer.{Answer}
-use Rattle.names.specs.Scan.{wellFormed}
+use Rattle.labels.specs.Scan.{wellFormed}
 use Rattle.plan.specs.Check.{checkOf}
 use Rattle.plan.specs.Graph.{graphOf}
 use Rattle.search.specs.Answers.{numberOf, answerOf, outputOf}

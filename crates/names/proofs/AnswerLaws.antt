@@ -9,10 +9,11 @@ use native.Mathlib.Omega.{arith}
 use native.Mathlib.Nat.{zero-add}
 use borrow.Author.Tests.{eq-eqb, ne-eqb}
 use Rattle.octets.specs.Octets.{blank, Small}
-use Rattle.names.specs.Scan.{Reading, refused, done, scanOf, apart, labelsOf, fills, wellFormed}
+use Rattle.labels.specs.Scan.{Reading, refused, done, scanOf, apart, labelsOf, fills, wellFormed}
 use Rattle.names.specs.Standard.{standardOf}
 use Rattle.octets.specs.Answers.{answering, refusal}
-use Rattle.names.specs.Answers.{standardNumber, standardAnswer, standardOut, scanned}
+use Rattle.labels.specs.Answers.{scanned}
+use Rattle.names.specs.Answers.{standardNumber, standardAnswer, standardOut}
 use Rattle.octets.proofs.OctetLaws.{nil-of-length, drop-blank}
 use Rattle.names.proofs.WriteLaws.{standard-apart}
 

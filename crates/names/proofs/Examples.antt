@@ -4,9 +4,9 @@ use mathlib.Core.Path.{_≡_, refl}
 use mathlib.Core.Bool.{Bool, true, false}
 use mathlib.Core.List.{List, [], _∷_, _++_, map}
 use lib.ListN.{replicate}
-use Rattle.names.specs.declared.Scanned.{Scanned}
-use Rattle.names.specs.Scan.{scanOf}
-use Rattle.names.specs.Answers.{scanned}
+use Rattle.labels.specs.declared.Scanned.{Scanned}
+use Rattle.labels.specs.Scan.{scanOf}
+use Rattle.labels.specs.Answers.{scanned}
 use Rattle.names.specs.Standard.{standardOf}
 
 -- RFC 2874: \[x0A0020FFFE812B32/64].\[x0009/16].\[x3FFE07C00040/48].IP6.ARPA

@@ -7,8 +7,8 @@ use lib.ListN.{length, length-append}
 use native.Mathlib.Omega.{arith}
 use borrow.Author.Tests.{eqb-true}
 use Rattle.octets.specs.Octets.{Small}
-use Rattle.names.specs.Scan.{Reading, refused, done, scanOf, fills, wellFormed}
-use Rattle.names.specs.Answers.{scanned}
+use Rattle.labels.specs.Scan.{Reading, refused, done, scanOf, fills, wellFormed}
+use Rattle.labels.specs.Answers.{scanned}
 use Rattle.names.proofs.Written.{written}
 use Rattle.names.proofs.WriteLaws.{scan-reads, written-back}
 

@@ -1,5 +1,3 @@
-pub mod LabelLaws
-pub mod ScanLaws
 pub mod Written
 pub mod Merged
 pub mod WriteLaws

@@ -11,9 +11,9 @@ use native.Mathlib.Numerals.{add-one}
 use borrow.Author.Tests.{eq-eqb, ne-eqb, eqb-true, eqb-false, ltb-true}
 use Rattle.octets.specs.Octets.{blank}
 use Rattle.bits.specs.Bits.{octetsFor, unpack, packFrom, pack}
-use Rattle.names.specs.Labels.{Label, ordinary, bits, firstOf, countFor, countOf, sizeOf, runOf, labelOf}
-use Rattle.names.specs.Scan.{wellFormed}
-use Rattle.names.specs.Reads.{Sound, Reads, root, more}
+use Rattle.labels.specs.Labels.{Label, ordinary, bits, firstOf, countFor, countOf, sizeOf, runOf, labelOf}
+use Rattle.labels.specs.Scan.{wellFormed}
+use Rattle.labels.specs.Reads.{Sound, Reads, root, more}
 use Rattle.names.specs.Standard.{units, unitsOf, bitLabel, encodeFrom, encode, standardOf}
 use Rattle.bits.specs.Packing.{Clean, Ready, Pushed, Flushed}
 use Rattle.names.specs.Merge.{labelsFrom, labelsAt, Begins, runBits, afterRun, Ran, encodeAt, Moved}
@@ -21,8 +21,8 @@ use Rattle.bits.specs.declared.inside.Packer.{Packer}
 use Rattle.names.specs.declared.Run.{Run}
 use Rattle.names.specs.declared.Place.{Place}
 use Rattle.bits.proofs.BitLaws.{unpack-length}
-use Rattle.names.proofs.LabelLaws.{first-at, count-at, count-least, size-bits, size-ordinary}
-use Rattle.names.proofs.ScanLaws.{size-least, label-bits, label-ordinary, size-drop}
+use Rattle.labels.proofs.LabelLaws.{first-at, count-at, count-least, size-bits, size-ordinary}
+use Rattle.labels.proofs.ScanLaws.{size-least, label-bits, label-ordinary, size-drop}
 use Rattle.names.proofs.WriteLaws.{or-left, encode-before, well-reads, bit-label-some}
 use Rattle.bits.proofs.PackLaws.{packer, clean-drop, clean-more, take-more}
 use Rattle.octets.proofs.OctetLaws.{length-blank}

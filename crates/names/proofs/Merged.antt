@@ -3,7 +3,7 @@ use Prim.Native.Nat.{ℕ, _≤_, _<_}
 use mathlib.Core.List.{List, [], _∷_, _++_}
 use lib.ListN.{length}
 use Rattle.bits.specs.Bits.{Bits}
-use Rattle.names.specs.Labels.{Label, ordinary, bits}
+use Rattle.labels.specs.Labels.{Label, ordinary, bits}
 
 -- a run as one label, before others
 unfoldable pub oneLabel : List ℕ → List Label → List Label

@@ -10,7 +10,7 @@ use Rattle.octets.specs.Octets.{blank, Small}
 use Rattle.octets.specs.declared.Answer.{Answer}
 use Rattle.octets.proofs.OctetLaws.{nil-of-length}
 use Rattle.octets.proofs.BoolLaws.{clash, refuted}
-use Rattle.names.specs.Scan.{wellFormed}
+use Rattle.labels.specs.Scan.{wellFormed}
 use Rattle.names.specs.Standard.{standardOf, inStandardForm}
 use Rattle.names.specs.Name.{nameOf, heldOf}
 use Rattle.names.specs.Answers.{standardAnswer, standardOut}

@@ -9,17 +9,17 @@ use lib.Seq.{length-take-le, take-append-seam, drop-append-seam}
 use native.Mathlib.Omega.{arith}
 use borrow.Author.Tests.{eq-eqb, eqb-true, eqb-false, ltb-true}
 use Rattle.bits.specs.Bits.{octetsFor, unpack, packFrom, pack, Bits}
-use Rattle.names.specs.Labels.{Label, ordinary, bits, firstOf, countFor, countOf, sizeOf, runOf, labelOf, unusedClear, faultOf}
-use Rattle.names.specs.Scan.{Reading, done, with, scanFrom, scanOf, apart, labelsOf, fills, wellFormed}
-use Rattle.names.specs.Reads.{Reads, root, more}
+use Rattle.labels.specs.Labels.{Label, ordinary, bits, firstOf, countFor, countOf, sizeOf, runOf, labelOf, unusedClear, faultOf}
+use Rattle.labels.specs.Scan.{Reading, done, with, scanFrom, scanOf, apart, labelsOf, fills, wellFormed}
+use Rattle.labels.specs.Reads.{Reads, root, more}
 use Rattle.names.specs.Standard.{Unit, label, bit, before, units, unitsOf, bitLabel, encodeFrom, encode, standardOf, Same}
 use Rattle.names.proofs.Written.{writeLabel, written}
 use Rattle.names.proofs.Merged.{oneLabel, merged, Fit, AllFit}
 use Rattle.octets.specs.Octets.{Small}
 use Rattle.bits.proofs.BitLaws.{unpack-length}
 use Rattle.bits.proofs.PackingLaws.{pack-length, bits-append, unpack-bits, unpack-pack, pack-clear}
-use Rattle.names.proofs.LabelLaws.{count-least, is-ordinary, is-bits, size-bits, size-ordinary, run-bits, run-ordinary, plain-clear, bits-clear, fault-none}
-use Rattle.names.proofs.ScanLaws.{scan-end, scan-more, label-bits, label-ordinary}
+use Rattle.labels.proofs.LabelLaws.{count-least, is-ordinary, is-bits, size-bits, size-ordinary, run-bits, run-ordinary, plain-clear, bits-clear, fault-none}
+use Rattle.labels.proofs.ScanLaws.{scan-end, scan-more, label-bits, label-ordinary}
 use Rattle.names.proofs.MergeLaws.{reads-end}
 use Rattle.names.proofs.WriteLaws.{or-left, encode-before, bit-label-some, well-reads, written-back}
 

@@ -6,9 +6,9 @@ use mathlib.Core.List.{List, [], _∷_, _++_, append-nil}
 use lib.ListN.{length, length-append}
 use native.Mathlib.Omega.{arith}
 use Rattle.octets.specs.Octets.{same, Small}
-use Rattle.names.specs.Labels.{Label, ordinary, bits}
-use Rattle.names.specs.Scan.{Reading, refused, done, scanOf, apart, labelsOf, fills, wellFormed}
-use Rattle.names.specs.Answers.{scanned, finish}
+use Rattle.labels.specs.Labels.{Label, ordinary, bits}
+use Rattle.labels.specs.Scan.{Reading, refused, done, scanOf, apart, labelsOf, fills, wellFormed}
+use Rattle.labels.specs.Answers.{scanned, finish}
 use Rattle.names.specs.Standard.{units, unitsOf, bitLabel, encodeFrom, encode, standardOf, Same, sameName, inStandardForm}
 use Rattle.names.proofs.Written.{writeLabel, written}
 use Rattle.names.proofs.Merged.{AllFit}

@@ -9,16 +9,16 @@ use lib.Seq.{length-take-le, getD-take}
 use native.Mathlib.Omega.{arith}
 use borrow.Author.Tests.{eq-eqb, eqb-true, eqb-false, ltb-true, not-false}
 use Rattle.bits.specs.Bits.{octetsFor, unpack, pack}
-use Rattle.names.specs.Labels.{Label, ordinary, bits, firstOf, countFor, countOf, sizeOf, runOf, labelOf, unusedClear, faultOf}
-use Rattle.names.specs.Scan.{Reading, refused, done, with, scanFrom, scanOf, apart, labelsOf, fills, wellFormed}
+use Rattle.labels.specs.Labels.{Label, ordinary, bits, firstOf, countFor, countOf, sizeOf, runOf, labelOf, unusedClear, faultOf}
+use Rattle.labels.specs.Scan.{Reading, refused, done, with, scanFrom, scanOf, apart, labelsOf, fills, wellFormed}
 use Rattle.names.specs.Standard.{Unit, bit, before, units, unitsOf, bitLabel, encodeFrom, encode, standardOf}
-use Rattle.names.specs.Reads.{Sound, Reads, root, more}
+use Rattle.labels.specs.Reads.{Sound, Reads, root, more}
 use Rattle.names.proofs.Written.{writeLabel, written}
 use Rattle.octets.specs.Octets.{Small}
 use Rattle.bits.proofs.BitLaws.{unpack-take, unpack-length, pack-unpack}
 use Rattle.octets.proofs.OctetLaws.{nil-of-length, small-drop, small-take}
-use Rattle.names.proofs.LabelLaws.{fault-sound, count-least, size-bits, size-ordinary}
-use Rattle.names.proofs.ScanLaws.{scan-missing, scan-fault, scan-end, scan-more, size-least, label-bits, label-ordinary}
+use Rattle.labels.proofs.LabelLaws.{fault-sound, count-least, size-bits, size-ordinary}
+use Rattle.labels.proofs.ScanLaws.{scan-missing, scan-fault, scan-end, scan-more, size-least, label-bits, label-ordinary}
 
 done-labels : {ls ms : List Label} {u v : ℕ} → done ls u ≡ done ms v → ls ≡ ms
 done-labels h = cc

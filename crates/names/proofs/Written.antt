@@ -2,7 +2,7 @@
 use Prim.Native.Nat.{ℕ}
 use mathlib.Core.List.{List, [], _∷_, _++_}
 use lib.ListN.{length}
-use Rattle.names.specs.Labels.{Label, ordinary, bits}
+use Rattle.labels.specs.Labels.{Label, ordinary, bits}
 use Rattle.names.specs.Standard.{bitLabel}
 
 unfoldable pub writeLabel : Label → List ℕ

@@ -1,33 +1,14 @@
--- What the scan answers, and what standard_form answers and writes (01, What comes back). Assumes nothing.
+-- What standard_form answers and writes (01, What comes back). Assumes nothing.
 use Prim.Native.Nat.{ℕ, zero, suc, _-_}
-use mathlib.Core.Bool.{Bool, true, false, not, _&&_}
+use mathlib.Core.Bool.{not}
 use mathlib.Core.List.{List, _++_}
 use lib.Dec.{eqb}
 use lib.ListN.{length}
 use Rattle.octets.specs.Octets.{blank}
 use Rattle.octets.specs.declared.Answer.{Answer}
 use Rattle.octets.specs.Answers.{earns, answering, refusal}
-use Rattle.names.specs.Scan.{Reading, refused, done, wellFormed, apart}
+use Rattle.labels.specs.Scan.{wellFormed}
 use Rattle.names.specs.Standard.{standardOf}
-use Rattle.names.specs.declared.Scanned.{Scanned}
-
--- the answer to a refused reading, and to one that ended well
-abbrev pub unread : ℕ → Scanned
-unread n = record { number = n; used = 0; standard = false }
-
-abbrev pub found : ℕ → Bool → Scanned
-found used standard = record { number = 0; used = used; standard = standard }
-
--- the answer to a reading of what is left: `ok` if no two bit labels were adjacent so far, `after` if a bit label came just before
-unfoldable pub finish : Bool → Bool → Reading → Scanned
-unfolding apart
-finish ok after (refused n) = unread n
-finish ok after (done ls used) = found used (ok && apart after ls)
-
--- what `scan` answers to a reading: the number, the octets used, and whether no two bit labels are adjacent (then the name is in standard form)
-unfoldable pub scanned : Reading → Scanned
-unfolding finish
-scanned r = finish true false r
 
 -- the number for a name and an output of `room` octets: 4 for a malformed name, then 5 for an output that is not of 255
 unfoldable pub standardNumber : List ℕ → ℕ → ℕ

@@ -6,8 +6,8 @@ use mathlib.Core.List.{List, [], _∷_, _++_}
 use lib.ListN.{length}
 use Rattle.octets.specs.Octets.{same}
 use Rattle.bits.specs.Bits.{pack}
-use Rattle.names.specs.Labels.{Label, ordinary, bits}
-use Rattle.names.specs.Scan.{scanOf, labelsOf, wellFormed}
+use Rattle.labels.specs.Labels.{Label, ordinary, bits}
+use Rattle.labels.specs.Scan.{scanOf, labelsOf, wellFormed}
 
 -- what a name is made of: an ordinary label is one unit, and so is each single bit (unit is 01's term)
 pub data Unit : Type 0 where

@@ -1,24 +1,13 @@
-// What only our own layers call: pieces of labels, and the standard form of a name that was scanned.
+// What only our own layers call: the standard form of a name that was scanned.
 ghost use mathlib.Core.Path.{_≡_};
 ghost use mathlib.Core.Bool.{true};
 ghost use mathlib.Core.List.{_++_};
 ghost use Prim.Native.Nat.{_-_, _≤_};
 ghost use lib.ListN.{length};
 ghost use Rattle.octets.specs.Octets.{blank};
-ghost use Rattle.names.specs.Labels.{countFor};
-ghost use Rattle.names.specs.Scan.{scanOf, wellFormed};
+ghost use Rattle.labels.specs.Scan.{scanOf, wellFormed};
 ghost use Rattle.names.specs.Standard.{standardOf};
-ghost use Rattle.names.specs.Answers.{scanned};
-
-// The bits that a count octet stands for: 256 is written as 0.
-pub fn count(c: u8) -> usize
-    ensures { λ r. ⌜ (r ≡ countFor c) × (1 ≤ r) × (r ≤ 256) ⌝ }
-{
-    if c == 0 {
-        return 256;
-    }
-    octets::wide(c)
-}
+ghost use Rattle.labels.specs.Answers.{scanned};
 
 // The standard form of a well-formed name over zeros, and its length; `standard` is what a scan says of the name.
 pub fn put_standard(name: &[u8], standard: bool, out: &mut [u8]) -> usize

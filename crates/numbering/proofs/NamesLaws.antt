@@ -10,7 +10,7 @@ use native.Mathlib.Numerals.{add-one}
 use lib.ListN.{length, getD, set, length-set}
 use lib.Seq.{getD-set-same, getD-set-other}
 use Rattle.octets.specs.Octets.{Small}
-use Rattle.names.specs.Scan.{wellFormed}
+use Rattle.labels.specs.Scan.{wellFormed}
 use Rattle.names.specs.Standard.{standardOf}
 use Rattle.names.proofs.StandardLaws.{same-same-name}
 use Rattle.names.proofs.RoundLaws.{standard-units, units-same}

@@ -10,8 +10,8 @@ use native.Mathlib.Omega.{arith}
 use borrow.Author.Tests.{eqb-true, eqb-false}
 use Rattle.bits.specs.Bits.{octetsFor, unpack}
 use Rattle.octets.specs.Octets.{same, Small}
-use Rattle.names.specs.Labels.{bits, countFor}
-use Rattle.names.specs.Scan.{apart}
+use Rattle.labels.specs.Labels.{bits, countFor}
+use Rattle.labels.specs.Scan.{apart}
 use Rattle.names.specs.Standard.{Unit, label, bit, before, units, encode}
 use Rattle.names.proofs.Written.{written}
 use Rattle.names.specs.Merge.{Begins, labelsFrom, labelsAt}

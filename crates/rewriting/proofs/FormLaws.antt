@@ -8,8 +8,8 @@ use lib.ListN.{length, take}
 use native.Mathlib.Omega.{arith}
 use borrow.Author.Tests.{eq-eqb, ltb-false}
 use Rattle.bits.specs.Bits.{Bits}
-use Rattle.names.specs.Labels.{Label, ordinary, bits}
-use Rattle.names.specs.Scan.{Reading, done, scanOf, apart, labelsOf, fills, wellFormed}
+use Rattle.labels.specs.Labels.{Label, ordinary, bits}
+use Rattle.labels.specs.Scan.{Reading, done, scanOf, apart, labelsOf, fills, wellFormed}
 use Rattle.names.specs.Standard.{Unit, label, bit, before, units, unitsOf, bitLabel, encodeFrom, encode}
 use Rattle.names.proofs.Written.{writeLabel, written}
 use Rattle.names.proofs.Merged.{oneLabel, AllFit}

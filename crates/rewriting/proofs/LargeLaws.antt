@@ -7,8 +7,8 @@ use lib.Dec.{ltb}
 use lib.ListN.{length, length-append}
 use native.Mathlib.Omega.{arith}
 use borrow.Author.Tests.{le-ltb, ltb-false}
-use Rattle.names.specs.Labels.{Label, ordinary, bits}
-use Rattle.names.specs.Scan.{apart}
+use Rattle.labels.specs.Labels.{Label, ordinary, bits}
+use Rattle.labels.specs.Scan.{apart}
 use Rattle.names.specs.Standard.{Unit, label, bit, before, units}
 use Rattle.names.proofs.Merged.{AllFit}
 use Rattle.rewriting.specs.Rewrite.{longRun}

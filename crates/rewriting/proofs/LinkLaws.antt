@@ -4,7 +4,7 @@ use mathlib.Core.Path.{_≡_, ap, _∙_, sym}
 use mathlib.Core.Bool.{true, false}
 use mathlib.Core.List.{List}
 use Rattle.octets.specs.Octets.{Small}
-use Rattle.names.specs.Scan.{scanOf, labelsOf, wellFormed, apart}
+use Rattle.labels.specs.Scan.{scanOf, labelsOf, wellFormed, apart}
 use Rattle.names.specs.Standard.{units, unitsOf, inStandardForm}
 use Rattle.names.proofs.WriteLaws.{well-reads}
 use Rattle.names.proofs.StandardLaws.{in-standard, apart-standard}

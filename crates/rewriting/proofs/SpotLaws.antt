@@ -7,11 +7,11 @@ use lib.ListN.{length, getD, drop, length-append}
 use native.Mathlib.Omega.{arith}
 use native.Mathlib.Nat.{zero-add}
 use Rattle.bits.specs.Bits.{octetsFor, unpack}
-use Rattle.names.specs.Labels.{Label, ordinary, bits, countFor}
+use Rattle.labels.specs.Labels.{Label, ordinary, bits, countFor}
 use Rattle.names.specs.Standard.{Unit, label, bit, before, units}
-use Rattle.names.specs.Scan.{apart}
+use Rattle.labels.specs.Scan.{apart}
 use Rattle.names.specs.Merge.{Begins, labelsAt}
-use Rattle.names.proofs.LabelLaws.{first-at}
+use Rattle.labels.proofs.LabelLaws.{first-at}
 use Rattle.names.proofs.MergeLaws.{at-bits, at-ordinary, labels-end}
 use Rattle.rewriting.specs.Spots.{unitsAt, NoBit, lastRun, Turned, Parted, Found}
 use Rattle.rewriting.specs.declared.inside.Spot.{Spot}

@@ -5,8 +5,8 @@ use mathlib.Core.Bool.{true, false}
 use mathlib.Core.List.{List, [], _∷_, _++_}
 use lib.ListN.{length, getD, drop}
 use Rattle.bits.specs.Bits.{octetsFor, unpack}
-use Rattle.names.specs.Labels.{Label, countFor}
-use Rattle.names.specs.Scan.{apart}
+use Rattle.labels.specs.Labels.{Label, countFor}
+use Rattle.labels.specs.Scan.{apart}
 use Rattle.names.specs.Standard.{Unit, label, bit, before, units}
 use Rattle.names.specs.Merge.{Begins, labelsFrom, labelsAt}
 use Rattle.rewriting.specs.declared.inside.Spot.{Spot}

@@ -40,7 +40,7 @@ fn pass(name: &[u8], at: usize) -> Turn
 {
     let x = name[at];
     if x == 65 {
-        let n = names::inside::count(name[at + 1]);
+        let n = labels::inside::count(name[at + 1]);
         return Turn {
             end: at + 2 + (n + 7) / 8,
             units: n,
@@ -126,7 +126,7 @@ fn leading(name: &[u8]) -> Front
     ensures { λ r. ⌜ Fronted (now (name .entry)) r ⌝ }
 {
     if name[0] == 65 {
-        let n = names::inside::count(name[1]);
+        let n = labels::inside::count(name[1]);
         return Front {
             from: 2,
             bits: n,

@@ -9,7 +9,7 @@ use Rattle.names.proofs.NameLaws.{held-some, held-none, held-name}
 use Rattle.octets.specs.Octets.{blank, Small}
 use Rattle.octets.specs.declared.Answer.{Answer}
 use Rattle.names.specs.declared.Name.{Name}
-use Rattle.names.specs.Scan.{wellFormed}
+use Rattle.labels.specs.Scan.{wellFormed}
 use Rattle.names.specs.Standard.{standardOf}
 use Rattle.names.specs.Name.{heldOf}
 use Rattle.names.proofs.RoundLaws.{standard-formed, standard-again}

@@ -3,7 +3,7 @@ use Prim.Native.Nat.{ℕ, _+_, _-_, _<_}
 use mathlib.Core.Path.{refl, _∙_}
 use lib.ListN.{length, getD, length-set}
 use native.Mathlib.Omega.{arith}
-use Rattle.names.specs.Labels.{countFor}
+use Rattle.labels.specs.Labels.{countFor}
 use Rattle.names.proofs.MergeLaws.{begins-inside, at-bits, ran-none, ran-more, ran-ready}
 use borrow.Author.Needs.{needs}
 use borrow.Fn.Kinds.{In}
@@ -12,7 +12,7 @@ use Rattle.names.proofs.pack_run.Reads as pack-run
 use Rattle.names.proofs.pack_run.Kinds as pack-run-kinds
 use Rattle.names.proofs.+pack_run.Lts-pack_run as pack-run-lts
 use Rattle.bits.proofs.inside.append.Reads as append-reads
-use Rattle.names.proofs.inside.count.Reads as count-reads
+use Rattle.labels.proofs.inside.count.Reads as count-reads
 use Rattle.names.proofs.+pack_run.{statement}
 use Rattle.names.proofs.+pack_run.Tie.{close}
 

@@ -1,6 +1,6 @@
 -- `names::is_standard` meets its contract: the scan tells all. Assumes nothing.
 use mathlib.Core.Path.{ap, _∙_, sym}
-use Rattle.names.specs.declared.Scanned.{Scanned}
+use Rattle.labels.specs.declared.Scanned.{Scanned}
 use Rattle.names.proofs.AnswerLaws.{form-number, form-used, form-good}
 use Rattle.names.proofs.StandardLaws.{scan-standard, malformed-not}
 use borrow.Author.Needs.{needs}

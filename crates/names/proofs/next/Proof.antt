@@ -4,7 +4,7 @@ use mathlib.Core.Path.{refl}
 use lib.ListN.{length, getD, drop}
 use native.Mathlib.Omega.{arith}
 use Rattle.bits.specs.Bits.{unpack}
-use Rattle.names.specs.Labels.{countFor}
+use Rattle.labels.specs.Labels.{countFor}
 use Rattle.bits.proofs.PackLaws.{ready-after, ready-less}
 use Rattle.names.proofs.MergeLaws.{begins-inside, at-bits, at-ordinary, ran-ready, moved-run, moved-ordinary}
 use borrow.Author.Needs.{needs}

@@ -8,7 +8,7 @@ use native.Mathlib.Omega.{arith}
 use Rattle.octets.specs.Octets.{blank}
 use Rattle.names.specs.Standard.{standardOf}
 use Rattle.names.specs.Answers.{standardNumber}
-use Rattle.names.specs.declared.Scanned.{Scanned}
+use Rattle.labels.specs.declared.Scanned.{Scanned}
 use Rattle.names.proofs.MergeLaws.{begins-start}
 use Rattle.names.proofs.AnswerLaws.{form-number, form-used, form-good, number-malformed, number-room, number-done, refused-answer, refused-out, done-answer, done-out, standard-copied}
 use borrow.Author.Needs.{needs}

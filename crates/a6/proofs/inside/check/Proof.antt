@@ -2,7 +2,7 @@
 use mathlib.Core.Path.{_≡_, ap, sym, _∙_}
 use native.Mathlib.Omega.{arith}
 use borrow.Author.Needs.{needs}
-use Rattle.names.specs.declared.Scanned.{Scanned}
+use Rattle.labels.specs.declared.Scanned.{Scanned}
 use Rattle.a6.specs.Read.{nameFound}
 use Rattle.a6.proofs.ReadLaws.{Fronted, read-empty, read-prefix, read-suffix, read-name, read-left, read-done, found-none, part-found}
 use Rattle.a6.proofs.inside.check.Statement.{statement}

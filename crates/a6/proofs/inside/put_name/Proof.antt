@@ -3,7 +3,7 @@ use mathlib.Core.Path.{refl, ap, _∙_, sym}
 use native.Mathlib.Omega.{arith}
 use borrow.Author.Needs.{needs}
 use Rattle.octets.specs.Octets.{Small}
-use Rattle.names.specs.declared.Scanned.{Scanned}
+use Rattle.labels.specs.declared.Scanned.{Scanned}
 use Rattle.names.specs.declared.Name.{Name}
 use Rattle.names.specs.Name.{nameOf}
 use Rattle.a6.proofs.ReadLaws.{Readable, readable, name-none, part-found, part-formed, part-name}

@@ -1,7 +1,7 @@
 -- `rewriting::inside::leading` meets its contract. Assumes nothing.
 use Rattle.rewriting.proofs.BeneathLaws.{fronted-bits, fronted-none}
 use Rattle.names.proofs.MergeLaws.{at-bits, begins-inside}
-use Rattle.names.specs.Labels.{countFor}
+use Rattle.labels.specs.Labels.{countFor}
 use native.Mathlib.Omega.{arith}
 use lib.ListN.{getD}
 use mathlib.Core.Path.{refl}

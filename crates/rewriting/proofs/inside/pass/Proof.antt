@@ -1,7 +1,7 @@
 -- `rewriting::inside::pass` meets its contract: a bit label or an ordinary one, each by one law. Assumes nothing.
 use Rattle.rewriting.proofs.SpotLaws.{turned-bits, turned-ordinary}
 use Rattle.names.proofs.MergeLaws.{at-bits, begins-inside}
-use Rattle.names.specs.Labels.{countFor}
+use Rattle.labels.specs.Labels.{countFor}
 use native.Mathlib.Omega.{arith}
 use lib.ListN.{getD}
 use mathlib.Core.Path.{_≡_, refl}

@@ -1,8 +1,8 @@
--- `names::still_apart` meets its contract. Assumes nothing.
+-- `labels::still_apart` meets its contract. Assumes nothing.
 use mathlib.Core.Path.{sym}
-use Rattle.names.proofs.ScanLaws.{apart-first, apart-other, apart-broken}
-use Rattle.names.proofs.still_apart.Statement.{statement}
-use Rattle.names.proofs.still_apart.Tie as tie
+use Rattle.labels.proofs.ScanLaws.{apart-first, apart-other, apart-broken}
+use Rattle.labels.proofs.still_apart.Statement.{statement}
+use Rattle.labels.proofs.still_apart.Tie as tie
 
 returns : tie.Need-returns
 returns c = let a = c .before .args in sym (apart-first (a .ok) (a .run) (a .next) (c .if1 .taken))

@@ -10,11 +10,11 @@ use native.Mathlib.Omega.{arith}
 use borrow.Author.Tests.{lt-ltb, eq-eqb, ne-eqb, eqb-true, eqb-false}
 use Rattle.bits.specs.Bits.{octetsFor, unpack}
 use Rattle.octets.proofs.BoolLaws.{and-true, and-false}
-use Rattle.names.specs.Labels.{ordinary, bits, firstOf, countOf, sizeOf, runOf, labelOf, faultOf}
-use Rattle.names.specs.Scan.{Reading, refused, done, with, scanFrom}
-use Rattle.names.specs.Answers.{unread, found, finish}
-use Rattle.names.specs.Steps.{stillApart}
-use Rattle.names.proofs.LabelLaws.{count-least, run-bits, size-ordinary}
+use Rattle.labels.specs.Labels.{ordinary, bits, firstOf, countOf, sizeOf, runOf, labelOf, faultOf}
+use Rattle.labels.specs.Scan.{Reading, refused, done, with, scanFrom}
+use Rattle.labels.specs.Answers.{unread, found, finish}
+use Rattle.labels.specs.Steps.{stillApart}
+use Rattle.labels.proofs.LabelLaws.{count-least, run-bits, size-ordinary}
 
 pub scan-skip : (used run k : ℕ) (xs : List ℕ) → scanFrom used run k xs ≡ scanFrom used run 0 (drop k xs)
 unfolding scanFrom

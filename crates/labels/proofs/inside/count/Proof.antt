@@ -1,10 +1,10 @@
--- `names::inside::count` meets its contract. Assumes nothing.
+-- `labels::inside::count` meets its contract. Assumes nothing.
 use native.Mathlib.Omega.{arith}
 use borrow.Author.Tests.{ne-eqb}
-use Rattle.names.specs.Labels.{countFor}
+use Rattle.labels.specs.Labels.{countFor}
 use borrow.Author.Needs.{needs}
-use Rattle.names.proofs.inside.count.Statement.{statement}
-use Rattle.names.proofs.inside.count.Tie as tie
+use Rattle.labels.proofs.inside.count.Statement.{statement}
+use Rattle.labels.proofs.inside.count.Tie as tie
 
 returns : tie.Need-returns
 unfolding countFor

@@ -1,14 +1,14 @@
--- `names::bit_label` meets its contract: each return is one law of a label. Assumes nothing.
+-- `labels::bit_label` meets its contract: each return is one law of a label. Assumes nothing.
 use Prim.Native.Nat.{_+_, _-_}
 use mathlib.Core.Path.{_≡_, _∙_, sym}
 use lib.ListN.{length, getD, drop, length-drop}
 use native.Mathlib.Omega.{arith}
 use Rattle.bits.specs.Bits.{octetsFor}
-use Rattle.names.specs.Labels.{firstOf, countOf, sizeOf, runOf}
-use Rattle.names.proofs.LabelLaws.{is-bits, size-bits, run-bits, bits-clear, bits-unclear, fault-beyond, fault-over, fault-unused, fault-run, fault-none, step-broken, step-none, first-at, count-at, unused-set, unused-none, step-at-eq}
+use Rattle.labels.specs.Labels.{firstOf, countOf, sizeOf, runOf}
+use Rattle.labels.proofs.LabelLaws.{is-bits, size-bits, run-bits, bits-clear, bits-unclear, fault-beyond, fault-over, fault-unused, fault-run, fault-none, step-broken, step-none, first-at, count-at, unused-set, unused-none, step-at-eq}
 use borrow.Author.Needs.{needs}
-use Rattle.names.proofs.bit_label.Statement.{statement}
-use Rattle.names.proofs.bit_label.Tie as tie
+use Rattle.labels.proofs.bit_label.Statement.{statement}
+use Rattle.labels.proofs.bit_label.Tie as tie
 
 add-a : tie.Need-add-a
 add-a c = search needs

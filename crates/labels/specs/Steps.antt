@@ -3,8 +3,8 @@ use Prim.Native.Nat.{ℕ, zero, suc, _+_}
 use mathlib.Core.Bool.{Bool, true, false}
 use mathlib.Core.List.{List}
 use lib.Dec.{eqb}
-use Rattle.names.specs.Labels.{sizeOf, runOf, faultOf}
-use Rattle.names.specs.declared.Step.{Step}
+use Rattle.labels.specs.Labels.{sizeOf, runOf, faultOf}
+use Rattle.labels.specs.declared.Step.{Step}
 
 -- one turn: a label that is refused, and a label that ends at a place with so many bits of its run
 abbrev pub broken : ℕ → Step

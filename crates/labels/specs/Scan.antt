@@ -4,7 +4,7 @@ use mathlib.Core.Bool.{Bool, true, false}
 use mathlib.Core.List.{List, [], _∷_}
 use lib.Dec.{eqb}
 use lib.ListN.{length}
-use Rattle.names.specs.Labels.{Label, ordinary, bits, sizeOf, runOf, labelOf, faultOf}
+use Rattle.labels.specs.Labels.{Label, ordinary, bits, sizeOf, runOf, labelOf, faultOf}
 
 -- a reading is refused by a number, or gives the labels before the zero octet and how many octets the name takes, the zero octet among them
 pub data Reading : Type 0 where

@@ -1,18 +1,18 @@
--- `names::scan` meets its contract: what is left to read gives the answer of the whole. Assumes nothing.
+-- `labels::scan` meets its contract: what is left to read gives the answer of the whole. Assumes nothing.
 use Prim.Native.Nat.{ℕ, _+_, _-_, _≤_}
 use mathlib.Core.Path.{_≡_, refl, ap, _∙_, sym}
 use lib.Dec.{ltb}
 use lib.ListN.{length, getD, drop, length-drop}
 use native.Mathlib.Omega.{arith}
-use Rattle.names.specs.declared.Step.{Step}
-use Rattle.names.specs.Labels.{firstOf, sizeOf, runOf, faultOf}
-use Rattle.names.specs.Scan.{scanFrom, scanOf}
-use Rattle.names.specs.Answers.{unread, found, finish, scanned}
-use Rattle.names.proofs.LabelLaws.{fault-sound, step-number, step-none, first-at}
-use Rattle.names.proofs.ScanLaws.{size-least, turn-missing, turn-refused, turn-end, turn-on}
+use Rattle.labels.specs.declared.Step.{Step}
+use Rattle.labels.specs.Labels.{firstOf, sizeOf, runOf, faultOf}
+use Rattle.labels.specs.Scan.{scanFrom, scanOf}
+use Rattle.labels.specs.Answers.{unread, found, finish, scanned}
+use Rattle.labels.proofs.LabelLaws.{fault-sound, step-number, step-none, first-at}
+use Rattle.labels.proofs.ScanLaws.{size-least, turn-missing, turn-refused, turn-end, turn-on}
 use borrow.Author.Needs.{needs}
-use Rattle.names.proofs.scan.Statement.{statement}
-use Rattle.names.proofs.scan.Tie as tie
+use Rattle.labels.proofs.scan.Statement.{statement}
+use Rattle.labels.proofs.scan.Tie as tie
 
 abbrev Inv-loop : tie.InvT-loop
 Inv-loop s n at₀ run₀ ok₀ at run ok =

@@ -10,11 +10,11 @@ use native.Mathlib.Omega.{arith}
 use native.Mathlib.Nat.{add-zero}
 use borrow.Author.Tests.{lt-ltb, le-ltb, eq-eqb, ne-eqb, eqb-false, ltb-false, not-false}
 use Rattle.bits.specs.Bits.{octetsFor}
-use Rattle.names.specs.Labels.{firstOf, isLabel, countFor, countOf, sizeOf, unusedClear, runOf, faultOf}
+use Rattle.labels.specs.Labels.{firstOf, isLabel, countFor, countOf, sizeOf, unusedClear, runOf, faultOf}
 use Rattle.octets.proofs.SmallLaws.{earns-zero}
 use Rattle.octets.proofs.BoolLaws.{and-false}
-use Rattle.names.specs.Reads.{Sound}
-use Rattle.names.specs.Steps.{broken, stepAt, stepFor, stepOf}
+use Rattle.labels.specs.Reads.{Sound}
+use Rattle.labels.specs.Steps.{broken, stepAt, stepFor, stepOf}
 
 pub is-ordinary : (x : ℕ) → x < 64 → isLabel x ≡ true
 is-ordinary x h = rw (lt-ltb x 64 h)

@@ -5,7 +5,7 @@ use mathlib.Core.Bool.{true, false, not, _&&_}
 use mathlib.Core.List.{List, [], _∷_}
 use lib.Dec.{eqb}
 use lib.ListN.{length, drop}
-use Rattle.names.specs.Labels.{Label, firstOf, isLabel, unusedClear, sizeOf, runOf, labelOf}
+use Rattle.labels.specs.Labels.{Label, firstOf, isLabel, unusedClear, sizeOf, runOf, labelOf}
 
 -- what holds of a label that earns no number
 pub record Sound (used run : ℕ) (xs : List ℕ) : Type 0 where

@@ -1,13 +1,13 @@
--- `names::label` meets its contract: each return is one law of a label. Assumes nothing.
+-- `labels::label` meets its contract: each return is one law of a label. Assumes nothing.
 use Prim.Native.Nat.{_+_, _-_, _<_}
 use mathlib.Core.Path.{_≡_, _∙_, sym}
 use lib.ListN.{length, getD, drop, length-drop}
 use native.Mathlib.Omega.{arith}
-use Rattle.names.specs.Labels.{firstOf, sizeOf, runOf}
-use Rattle.names.proofs.LabelLaws.{is-ordinary, is-other, size-ordinary, run-ordinary, plain-clear, fault-bad, fault-beyond, fault-over, fault-none, step-broken, step-none, first-at, step-at-eq}
+use Rattle.labels.specs.Labels.{firstOf, sizeOf, runOf}
+use Rattle.labels.proofs.LabelLaws.{is-ordinary, is-other, size-ordinary, run-ordinary, plain-clear, fault-bad, fault-beyond, fault-over, fault-none, step-broken, step-none, first-at, step-at-eq}
 use borrow.Author.Needs.{needs}
-use Rattle.names.proofs.label.Statement.{statement}
-use Rattle.names.proofs.label.Tie as tie
+use Rattle.labels.proofs.label.Statement.{statement}
+use Rattle.labels.proofs.label.Tie as tie
 
 shared-slice-read-x : tie.Need-shared-slice-read-x
 shared-slice-read-x c = search needs

@@ -1,0 +1,5 @@
+pub mod Labels
+pub mod Scan
+pub mod Answers
+pub mod Steps
+pub mod Reads
