@@ -175,14 +175,14 @@ fn find(
     requires { ⌜ (Listing (now table) (now head) (now link) (now places) count) × (length (now slot) ≡ slotSize) × (Holds (now slot)) × (bucket ≡ bucketOf (now slot)) ⌝ }
     ensures { λ r. ⌜ r ≡ numberIn (held (now (table .entry)) (now (places .entry)) count) (nameIn (now (slot .entry))) ⌝ }
 {
-    let mut next = wide(head[bucket]);
+    let mut next = octets::numbers::wide(head[bucket]);
     while 0 < next {
         let number = next - 1;
-        let listed = slot_at(table, wide(places[number]));
+        let listed = slot_at(table, octets::numbers::wide(places[number]));
         if plan::inside::same(listed, slot) {
             return number;
         }
-        next = wide(link[number]);
+        next = octets::numbers::wide(link[number]);
     }
     count
 }
@@ -204,12 +204,5 @@ fn bucket_of(slot: &[u8]) -> usize
     requires { ⌜ length (now slot) ≡ slotSize ⌝ }
     ensures { λ r. ⌜ r ≡ bucketOf (now (slot .entry)) ⌝ }
 {
-    wide(plan::inside::mark(slot)) % BUCKETS
-}
-
-// A stored number as an index.
-fn wide(x: u16) -> usize
-    ensures { λ r. ⌜ r ≡ x ⌝ }
-{
-    x as usize
+    octets::numbers::wide(plan::inside::mark(slot)) % BUCKETS
 }

@@ -1,4 +1,4 @@
-// What only our own layers call: octets as numbers of 64 bits, and back.
+// What only our own layers call: octets as numbers of 64 bits, and back; numbers as indices.
 ghost use mathlib.Core.Path.{_≡_};
 ghost use Prim.Native.Nat.{_+_, _*_, _^_, _≤_, _<_};
 ghost use lib.ListN.{length, take, drop};
@@ -39,4 +39,11 @@ pub fn write(out: &mut [u8], at: usize, v: u64)
         out[at + i] = ((v >> (8 * (7 - i))) % 256) as u8;
         i += 1;
     }
+}
+
+// A number of 16 bits as an index.
+pub fn wide(x: u16) -> usize
+    ensures { λ r. ⌜ r ≡ x ⌝ }
+{
+    x as usize
 }

@@ -89,13 +89,13 @@ fn step(
         rows::inside::keep(out, figures, h, l);
         return w;
     }
-    let x = links::wide(targets[i]);
-    let p = links::wide(prev[i]);
-    let q = links::wide(next[i]);
+    let x = octets::numbers::wide(targets[i]);
+    let p = octets::numbers::wide(prev[i]);
+    let q = octets::numbers::wide(next[i]);
     links::unlink(p, q, next, prev);
     let mut r = w;
     let head = owners.len() + x;
-    let first = links::wide(next[head]);
+    let first = octets::numbers::wide(next[head]);
     if first < owners.len() {
         r = search(
             owners,
@@ -143,7 +143,7 @@ fn search(
 {
     let mut s = work;
     let head = owners.len() + x;
-    let mut i = links::wide(next[head]);
+    let mut i = octets::numbers::wide(next[head]);
     while i < owners.len() {
         if limit < s {
             return s;
@@ -167,7 +167,7 @@ fn search(
                 s,
             );
         }
-        i = links::wide(next[i]);
+        i = octets::numbers::wide(next[i]);
     }
     s
 }

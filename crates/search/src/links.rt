@@ -5,13 +5,6 @@ ghost use lib.ListN.{length, set};
 ghost use Rattle.search.specs.Links.{Owned, Fresh, Alone, maxNodes};
 use crate::inside::NODES;
 
-// A node as an index.
-pub fn wide(x: u16) -> usize
-    ensures { λ r. ⌜ r ≡ x ⌝ }
-{
-    x as usize
-}
-
 // Each place its own number.
 fn alone(a: &mut [u16; NODES])
     requires { ⌜ length (now a) ≡ maxNodes ⌝ }
@@ -35,9 +28,9 @@ pub fn link(owners: &[u16], next: &mut [u16; NODES], prev: &mut [u16; NODES])
     let n = owners.len();
     let mut i: usize = 0;
     while i < n {
-        let head = n + wide(owners[i]);
+        let head = n + octets::numbers::wide(owners[i]);
         let last = prev[head];
-        let before = wide(last);
+        let before = octets::numbers::wide(last);
         let node = i as u16;
         next[before] = node;
         next[i] = head as u16;

@@ -25,7 +25,7 @@ use Rattle.search.proofs.inside.+search+step.Lts-step as step-lts
 use Rattle.search.proofs.inside.joined.Reads as joined-reads
 use Rattle.search.proofs.links.relink.Reads as relink-reads
 use Rattle.search.proofs.links.unlink.Reads as unlink-reads
-use Rattle.search.proofs.links.wide.Reads as wide-reads
+use Rattle.octets.proofs.numbers.wide.Reads as wide-reads
 use Rattle.rows.proofs.inside.keep.Reads as keep-reads
 use Rattle.search.proofs.inside.+search+step.{statement}
 use Rattle.search.proofs.inside.+search+step.Tie.{close}
