@@ -5,14 +5,14 @@ use mathlib.Core.Bool.{Bool, true, false}
 use mathlib.Core.List.{List, [], _∷_, _++_, append-nil}
 use lib.Dec.{ltb, eqb}
 use lib.ListN.{length, getD, take, drop, length-drop, take-append-drop}
-use lib.Seq.{length-take-le, getD-drop}
+use lib.Seq.{length-take-le}
 use lib.Pow.{pow-pos, shl-shr, high, low, field, mod-mod-pow}
 use lib.Arith.{digits-lt}
 use native.Mathlib.Omega.{arith}
 use native.Mathlib.Nat.{zero-add, add-zero, mod-eq-of-lt, pow-suc, mod-one}
 use borrow.Author.Tests.{eqb-true, eqb-false, ltb-true, ltb-false, ne-eqb}
 use Rattle.bits.specs.Bits.{Bits, bitsOf, octetsFor, unpack, packFrom, pack}
-use Rattle.octets.proofs.OctetLaws.{nil-of-length}
+use Rattle.octets.proofs.OctetLaws.{nil-of-length, under-drop, under-take, under-append}
 use Rattle.bits.proofs.BitLaws.{pack-some, pack-full, unpack-zero, unpack-octet}
 
 -- a whole number of octets
@@ -36,18 +36,13 @@ pack-length bs = rw (zero-add (length bs)) at (pack-from-length 0 0 bs (omega ar
 
 -- lists of bits
 pub bits-drop : (k : ℕ) (bs : List ℕ) → Bits bs → Bits (drop k bs)
-bits-drop k bs h i = rw (getD-drop k bs i 0) (h (k + i))
+bits-drop = under-drop 2
 
 pub bits-take : (k : ℕ) (bs : List ℕ) → Bits bs → Bits (take k bs)
-bits-take zero bs h i = omega arith
-bits-take (suc k) [] h i = omega arith
-bits-take (suc k) (b ∷ bs) h zero = h 0
-bits-take (suc k) (b ∷ bs) h (suc i) = bits-take k bs (λ j. h (suc j)) i
+bits-take = under-take 2
 
 pub bits-append : (xs ys : List ℕ) → Bits xs → Bits ys → Bits (xs ++ ys)
-bits-append [] ys h k i = k i
-bits-append (x ∷ xs) ys h k zero = h 0
-bits-append (x ∷ xs) ys h k (suc i) = bits-append xs ys (λ j. h (suc j)) k i
+bits-append = under-append 2
 
 pub bits-bits : (m x : ℕ) → Bits (bitsOf m x)
 unfolding bitsOf

@@ -1,13 +1,13 @@
 -- The bits of octets, and the octets that hold bits. The highest bit of an octet comes first throughout. Assumes nothing.
-use Prim.Native.Nat.{ℕ, zero, suc, _+_, _-_, _*_, _/_, _%_, _^_, _<_, min}
+use Prim.Native.Nat.{ℕ, zero, suc, _+_, _-_, _*_, _/_, _%_, _^_, min}
 use mathlib.Core.Bool.{true, false}
 use mathlib.Core.List.{List, [], _∷_, _++_}
 use lib.Dec.{eqb}
-use lib.ListN.{getD}
+use Rattle.octets.specs.Octets.{Under}
 
 -- each number of the list is a bit
 abbrev pub Bits : List ℕ → Type 0
-Bits bs = (i : ℕ) → getD bs i 0 < 2
+Bits bs = Under 2 bs
 
 -- the lowest m bits of a number, the highest of them first
 unfoldable pub bitsOf : ℕ → ℕ → List ℕ

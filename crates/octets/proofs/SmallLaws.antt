@@ -4,20 +4,18 @@ use mathlib.Core.Path.{_≡_, refl}
 use mathlib.Core.Bool.{Bool, true, false, not}
 use lib.Dec.{eqb}
 use borrow.Author.Tests.{eqb-true, eqb-false}
-use mathlib.Core.List.{List, [], _∷_, _++_}
+use mathlib.Core.List.{List, _∷_, _++_}
 use lib.ListN.{getD}
 use native.Mathlib.Omega.{arith}
+use Rattle.octets.proofs.OctetLaws.{under-cons, under-append}
 use Rattle.octets.specs.Octets.{blank, Small}
 use Rattle.octets.specs.Answers.{earns}
 
 pub small-cons : (x : ℕ) (xs : List ℕ) → x < 256 → Small xs → Small (x ∷ xs)
-small-cons x xs h k zero = h
-small-cons x xs h k (suc i) = k i
+small-cons = under-cons 256
 
 pub small-append : (xs ys : List ℕ) → Small xs → Small ys → Small (xs ++ ys)
-small-append [] ys h k i = k i
-small-append (x ∷ xs) ys h k zero = h 0
-small-append (x ∷ xs) ys h k (suc i) = small-append xs ys (λ j. h (suc j)) k i
+small-append = under-append 256
 
 pub getD-blank : (n i : ℕ) → getD (blank n) i 0 ≡ 0
 unfolding blank

@@ -10,9 +10,13 @@ use lib.ListN.{length, getD, replicate}
 unfoldable pub blank : ℕ → List ℕ
 blank n = replicate n 0
 
--- each number of the list is an octet: what the type of a slice gives of its contents
+-- each number of the list is below n
+abbrev pub Under : ℕ → List ℕ → Type 0
+Under n xs = (i : ℕ) → getD xs i 0 < n
+
+-- each is an octet: what the type of a slice gives of its contents
 abbrev pub Small : List ℕ → Type 0
-Small xs = (i : ℕ) → getD xs i 0 < 256
+Small xs = Under 256 xs
 
 -- the same octets, in the same order and number
 unfoldable pub same : List ℕ → List ℕ → Bool

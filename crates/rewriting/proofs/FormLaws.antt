@@ -7,6 +7,7 @@ use lib.Dec.{ltb}
 use lib.ListN.{length, take}
 use native.Mathlib.Omega.{arith}
 use borrow.Author.Tests.{eq-eqb, ltb-false}
+use Rattle.octets.proofs.OctetLaws.{under-cons}
 use Rattle.bits.specs.Bits.{Bits}
 use Rattle.labels.specs.Labels.{Label, ordinary, bits}
 use Rattle.labels.specs.Scan.{Reading, done, scanOf, apart, labelsOf, fills, wellFormed}
@@ -38,10 +39,6 @@ fit-take (suc k) (bit b ∷ us) f = (f .0, fit-take k us (f .1))
 
 bits-tail : (b : ℕ) (run : List ℕ) → Bits (b ∷ run) → Bits run
 bits-tail b run h i = h (suc i)
-
-bits-cons : (b : ℕ) (run : List ℕ) → b < 2 → Bits run → Bits (b ∷ run)
-bits-cons b run p h zero = p
-bits-cons b run p h (suc i) = h i
 
 pub fit-before : (b : List ℕ) (us : List Unit) → Bits b → FitUnits us → FitUnits (before b us)
 unfolding before
@@ -86,7 +83,7 @@ gather-fit run [] b f h = fit-one run [] b (ltb-false 256 (length run) h) (recor
 gather-fit run (label l ∷ us) b f h =
     let o = or-false (ltb 256 (length run)) (longRun 0 us) h in
     fit-one run (ordinary l ∷ gather [] us) b (ltb-false 256 (length run) (o .0)) ((f .0, f .1), gather-fit [] us (λ i. omega arith) (f .2) (o .1))
-gather-fit run (bit x ∷ us) b f h = gather-fit (x ∷ run) us (bits-cons x run (f .0) b) (f .1) h
+gather-fit run (bit x ∷ us) b f h = gather-fit (x ∷ run) us (under-cons 2 x run (f .0) b) (f .1) h
 
 -- a name whose standard form is not too large is read back
 module _ (us : List Unit) (f : FitUnits us) (h : longRun 0 us ≡ false) (n : length (encode us) ≤ 255) where
