@@ -8,4 +8,5 @@ pub mod Cutting
 pub mod AddressesLaws
 pub mod SpellingLaws
 pub mod RenamingLaws
+pub mod LifetimeLaws
 pub mod FoldingLaws

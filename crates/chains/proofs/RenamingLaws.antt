@@ -11,7 +11,7 @@ use lib.ListN.{length, getD, set}
 use Rattle.octets.specs.Octets.{Small, blank}
 use Rattle.address.specs.Address.{bitAt}
 use Rattle.chains.specs.Lists.{In, pick}
-use Rattle.chains.specs.Graph.{Graph, Sound}
+use Rattle.chains.specs.Graph.{Graph, Sound, maxTtl}
 use Rattle.chains.specs.Chain.{Starts, Linked, Chain, Spells, lastLength, speltBit, spelt}
 use Rattle.chains.specs.Listing.{free, fits, extend, paths, chainsFrom, chainsOf, workOf}
 use Rattle.chains.specs.Addresses.{insert, gather, addressesOf}
@@ -22,7 +22,7 @@ use Rattle.chains.proofs.ListingLaws.{extend-end, extend-on}
 use Rattle.chains.proofs.Listed.{listed-chain}
 
 -- all positions of a chain are below n
-abbrev Below : ℕ → List ℕ → Type 0
+abbrev pub Below : ℕ → List ℕ → Type 0
 Below n [] = Unit
 Below n (i ∷ p) = (i < n) × Below n p
 
@@ -31,7 +31,7 @@ module _ {N : Type 0} (g : Graph N) where
   linked-below i [] l = tt
   linked-below i (j ∷ p) l = (l .0 .1 .0, linked-below j p (l .1))
 
-  chain-below : (x : N) (p : List ℕ) → Chain g x p → Below (g .size) p
+  pub chain-below : (x : N) (p : List ℕ) → Chain g x p → Below (g .size) p
   chain-below x (i ∷ p) c = (c .0 .0, linked-below i p (c .1))
 
 module _ {N M : Type 0} (g : Graph N) (h : Graph M) where
@@ -57,11 +57,12 @@ module _ {N M : Type 0} (g : Graph N) (h : Graph M) where
       targets = λ i l z. let k : i < g .size = rw (r .sizes) l in alike-back (g .target i) (h .target i) (r .targets i k (rw (r .lengths i k) z));
     }
 
-    pub sound-renamed : Sound g → Sound h
-    sound-renamed s = record {
+    pub sound-renamed : ((i : ℕ) → i < g .size → g .ttl i ≡ h .ttl i) → Sound g → Sound h
+    sound-renamed ttls s = record {
       sixteen = λ i l. let k : i < g .size = rw (r .sizes) l in ap length (sym (r .addresses i k)) ∙ s .sixteen i k;
       small = λ i l. let k : i < g .size = rw (r .sizes) l in subst Small (r .addresses i k) (s .small i k);
       short = λ i l. let k : i < g .size = rw (r .sizes) l in subst (λ (n : ℕ). n ≤ 128) (r .lengths i k) (s .short i k);
+      lived = λ i l. let k : i < g .size = rw (r .sizes) l in subst (λ (n : ℕ). n ≤ maxTtl) (ttls i k) (s .lived i k);
     }
 
     -- ---- the listing
@@ -89,7 +90,7 @@ module _ {N M : Type 0} (g : Graph N) (h : Graph M) where
         λ t. pick (p t) (q t) [])
 
     -- ---- what the chains spell
-    last-renamed : (b : ℕ) (p : List ℕ) → Below (g .size) p → lastLength g b p ≡ lastLength h b p
+    pub last-renamed : (b : ℕ) (p : List ℕ) → Below (g .size) p → lastLength g b p ≡ lastLength h b p
     unfolding lastLength
     last-renamed b [] w = refl
     last-renamed b (i ∷ p) w = last-renamed (g .len i) p (w .1) ∙ ap (λ (n : ℕ). lastLength h n p) (r .lengths i (w .0))
@@ -103,7 +104,7 @@ module _ {N M : Type 0} (g : Graph N) (h : Graph M) where
         let q = bit-renamed p (w .1) k in
         λ t. pick (leb (l t) k) (bitAt (a t) k) (q t)
 
-    spelt-renamed : (p : List ℕ) → Below (g .size) p → spelt g p ≡ spelt h p
+    pub spelt-renamed : (p : List ℕ) → Below (g .size) p → spelt g p ≡ spelt h p
     spelt-renamed p w = spelt-same g h p p (bit-renamed p w)
 
     gather-renamed : (b : ℕ) (ps l : List (List ℕ)) → ((p : List ℕ) → In p ps → Below (g .size) p) → gather g b (spelt g) l ps ≡ gather h b (spelt h) l ps
