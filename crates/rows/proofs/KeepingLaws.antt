@@ -18,7 +18,7 @@ use Rattle.address.specs.Order.{orderOf, Precedes}
 use Rattle.address.proofs.OrderLaws.{same-equal, equal-same, precedes-transitive}
 use Rattle.chains.specs.Addresses.{Ascending, choose, insert}
 use Rattle.chains.proofs.AddressesLaws.{insert-ascending}
-use Rattle.rows.specs.Rows.{row, seek, putAt, Kept, keepIn, Holds, Ordered}
+use Rattle.rows.specs.Rows.{row, seek, putAt, lowered, Kept, keepIn, Holds, Ordered}
 use Rattle.rows.proofs.RowsLaws.{seek-end, seek-right, seek-left, keep-full, keep-at, keep-found, keep-new, keep-over}
 
 -- ---- the place of an address: after all that come before it
@@ -153,7 +153,7 @@ module _ (v : List ℕ) (l : List (List ℕ)) (y z : List ℕ) (k : ℕ) (r : Ea
   unfolding flat
   flat-cons = flat-append (take k l) (v ∷ drop k l)
 
-  put-flat : putAt (k * 16) (length l * 16) v (flat l ++ (y ++ z)) ≡ flat (take k l ++ (v ∷ drop k l)) ++ z
+  put-flat : putAt 16 (k * 16) (length l * 16) v (flat l ++ (y ++ z)) ≡ flat (take k l ++ (v ∷ drop k l)) ++ z
   unfolding putAt
   put-flat =
       let t = flat-take 16 (y ++ z) k l r h in
@@ -173,7 +173,7 @@ blank-more d h =
     let e : d * 16 ≡ 16 + (d - 1) * 16 = omega arith in
     ap blank e ∙ sym (replicate-append-replicate 16 ((d - 1) * 16) 0)
 
-module _ (room : ℕ) (v : List ℕ) (l : List (List ℕ)) (s : Kept) (n : length v ≡ 16) (h : Holds room l s) where
+module _ (room : ℕ) (v : List ℕ) (t : ℕ) (l : List (List ℕ)) (s : Kept) (n : length v ≡ 16) (h : Holds room l s) where
   abbrev k : ℕ
   k = rank v l
 
@@ -192,11 +192,15 @@ module _ (room : ℕ) (v : List ℕ) (l : List (List ℕ)) (s : Kept) (n : lengt
     long : length (s .out) ≡ room * 16
     long = ap length out ∙ omega (arith, length-append (flat l) rest, flat-length 16 l (h .rows), length-blank ((room - length l) * 16))
 
-    -- an address that stands in a row is kept already
-    there : (j : ℕ) → j < length l → orderOf (getD l j []) v ≡ Same → s ≡ keepIn v s
+    -- what is kept of an address that stands in a row: the lesser lifetime
+    abbrev again : ℕ → Kept
+    again j = record { out = s .out; lives = lowered j t (s .lives); count = s .count; full = s .full }
+
+    there : (j : ℕ) → j < length l → orderOf (getD l j []) v ≡ Same → again j ≡ keepIn v t s
     there j q e =
-        let z : k ≡ j = rank-at v l j (h .ascending) q (same-equal (getD l j []) v e) in
-        keep-found v s k (omega (arith, count)) (ap (λ (i : ℕ). orderOf (row (s .out) i) v) z ∙ ap (λ (a : List ℕ). orderOf a v) (same-row j q) ∙ e) ∙ keep-at v s k lax place
+        let z : j ≡ k = sym (rank-at v l j (h .ascending) q (same-equal (getD l j []) v e)) in
+        ap again z ∙ keep-found v t s k (omega (arith, count)) (ap (λ (i : ℕ). orderOf (row (s .out) i) v) (sym z) ∙ ap (λ (a : List ℕ). orderOf a v) (same-row j q) ∙ e)
+        ∙ keep-at v t s k lax place
 
     -- a row before or after it tells where to seek
     among : (a b : ℕ) → a ≤ k → k ≤ b → b ≤ length l → seek (b - a) (s .out) v a b ≡ seek (s .count) (s .out) v 0 (s .count)
@@ -217,10 +221,10 @@ module _ (room : ℕ) (v : List ℕ) (l : List (List ℕ)) (s : Kept) (n : lengt
         go (yes m) = absurd (let z : _≡_ {A = ℕ} 0 1 = cc (e, rank-before v l j m) in omega arith)
         go (no m) = omega (arith, m)
 
-    found : k < length l → orderOf (getD l k []) v ≡ Same → Holds room (insert v l) (keepIn v s)
+    found : k < length l → orderOf (getD l k []) v ≡ Same → Holds room (insert v l) (keepIn v t s)
     found q e =
-        let w : s ≡ keepIn v s = keep-found v s k (omega (arith, count)) (ap (λ (a : List ℕ). orderOf a v) (same-row k q) ∙ e) ∙ keep-at v s k lax place in
-        subst (λ (t : Kept). Holds room (insert v l) t) w (subst (λ (m : List (List ℕ)). Holds room m s) (sym (insert-found v l q e)) h)
+        subst (λ (c : Kept). Holds room (insert v l) c) (there k q e)
+        (subst (λ (m : List (List ℕ)). Holds room m (again k)) (sym (insert-found v l q e)) record { rows = h .rows; ascending = h .ascending; stands = h .stands })
 
     module _ (m : k < length l → orderOf (getD l k []) v ≡ Same → ⊥) where
       absent : k < s .count → orderOf (row (s .out) k) v ≡ Same → ⊥
@@ -233,50 +237,53 @@ module _ (room : ℕ) (v : List ℕ) (l : List (List ℕ)) (s : Kept) (n : lengt
           ap length (insert-new v l m)
           ∙ omega (arith, length-append (take k l) (v ∷ drop k l), length-take k l, length-drop k l, rank-within v l)
 
-      new : length l < room → Holds room (insert v l) (keepIn v s)
+      newly : length l < room
+          → record { out = putAt 16 (k * 16) (s .count * 16) v (s .out); lives = putAt 1 k (s .count) (t ∷ []) (s .lives); count = s .count + 1; full = false } ≡ keepIn v t s
+      newly q = keep-new v t s k absent (omega (arith, long, count)) ∙ keep-at v t s k lax place
+
+      new : length l < room → Holds room (insert v l) (keepIn v t s)
       new q =
           let d = room - length l in
           let e : room - length (insert v l) ≡ d - 1 = omega (arith, longer) in
-          let w : record { out = putAt (k * 16) (s .count * 16) v (s .out); count = s .count + 1; full = false } ≡ keepIn v s =
-          keep-new v s k absent (omega (arith, long, count)) ∙ keep-at v s k lax place in
-          let o : putAt (k * 16) (s .count * 16) v (s .out) ≡ flat (insert v l) ++ blank ((room - length (insert v l)) * 16) =
-          (λ i. putAt (k * 16) (count i * 16) v ((out ∙ ap (λ (x : List ℕ). flat l ++ x) (blank-more d (omega arith))) i))
+          let o : putAt 16 (k * 16) (s .count * 16) v (s .out) ≡ flat (insert v l) ++ blank ((room - length (insert v l)) * 16) =
+          (λ i. putAt 16 (k * 16) (count i * 16) v ((out ∙ ap (λ (x : List ℕ). flat l ++ x) (blank-more d (omega arith))) i))
           ∙ put-flat v l (blank 16) (blank ((d - 1) * 16)) k (h .rows) (length-blank 16) (rank-within v l)
           ∙ sym (λ i. flat (insert-new v l m i) ++ blank (e i * 16)) in
-          subst (λ (t : Kept). Holds room (insert v l) t) w record {
+          subst (λ (c : Kept). Holds room (insert v l) c) (newly q) record {
             rows = insert-rows v l n (h .rows);
             ascending = insert-ascending v l (h .ascending);
             stands = inl (refl, omega (arith, count, longer), omega (arith, longer), o);
           }
 
-      over : room ≤ length l → Holds room (insert v l) (keepIn v s)
+      over : room ≤ length l → Holds room (insert v l) (keepIn v t s)
       over q =
-          let w : record { out = s .out; count = s .count; full = true } ≡ keepIn v s = keep-over v s k absent (omega (arith, long, count)) ∙ keep-at v s k lax place in
-          subst (λ (t : Kept). Holds room (insert v l) t) w record {
+          let w : record { out = s .out; lives = s .lives; count = s .count; full = true } ≡ keepIn v t s =
+          keep-over v t s k absent (omega (arith, long, count)) ∙ keep-at v t s k lax place in
+          subst (λ (c : Kept). Holds room (insert v l) c) w record {
             rows = insert-rows v l n (h .rows);
             ascending = insert-ascending v l (h .ascending);
             stands = inr (refl, omega (arith, longer));
           }
 
-      apart : Dec (length l < room) → Holds room (insert v l) (keepIn v s)
+      apart : Dec (length l < room) → Holds room (insert v l) (keepIn v t s)
       apart (yes q) = new q
       apart (no q) = over (omega (arith, q))
 
-    kept-lax : Holds room (insert v l) (keepIn v s)
+    kept-lax : Holds room (insert v l) (keepIn v t s)
     kept-lax = go (decLt k (length l)) (orderOf (getD l k []) v) refl
       where
-        go : Dec (k < length l) → (o : Order) → orderOf (getD l k []) v ≡ o → Holds room (insert v l) (keepIn v s)
+        go : Dec (k < length l) → (o : Order) → orderOf (getD l k []) v ≡ o → Holds room (insert v l) (keepIn v t s)
         go (yes q) Same e = found q e
         go (yes q) Before e = apart (λ q f. let z : _≡_ {A = ℕ} 0 1 = cc in omega arith) (decLt (length l) room)
         go (yes q) After e = apart (λ q f. let z : _≡_ {A = ℕ} 0 1 = cc in omega arith) (decLt (length l) room)
         go (no q) o e = apart (λ p f. q p) (decLt (length l) room)
 
   -- keeping v keeps this true of the list with v
-  pub keep-holds : Holds room (insert v l) (keepIn v s)
+  pub keep-holds : Holds room (insert v l) (keepIn v t s)
   keep-holds =
       ⊎-elim (λ w. kept-lax (w .0) (w .1) (w .2) (w .3))
       (λ w.
-      subst (λ (t : Kept). Holds room (insert v l) t) (keep-full v s (w .0)) record {
+      subst (λ (c : Kept). Holds room (insert v l) c) (keep-full v t s (w .0)) record {
         rows = insert-rows v l n (h .rows);
         ascending = insert-ascending v l (h .ascending);
         stands = inr (w .0, omega (arith, w .1, insert-length v l .0));
@@ -284,11 +291,11 @@ module _ (room : ℕ) (v : List ℕ) (l : List (List ℕ)) (s : Kept) (n : lengt
       (h .stands)
 
 -- what is kept stays in order
-pub keep-ordered : (v : List ℕ) (s : Kept) → length v ≡ 16 → Ordered s → Ordered (keepIn v s)
-keep-ordered v s n o = record { room = o .room; list = insert v (o .list); holds = keep-holds (o .room) v (o .list) s n (o .holds) }
+pub keep-ordered : (v : List ℕ) (t : ℕ) (s : Kept) → length v ≡ 16 → Ordered s → Ordered (keepIn v t s)
+keep-ordered v t s n o = record { room = o .room; list = insert v (o .list); holds = keep-holds (o .room) v t (o .list) s n (o .holds) }
 
 -- what one of the rows tells of an address
-module _ (v : List ℕ) (s : Kept) (n : length v ≡ 16) (o : Ordered s) (lax : s .full ≡ false) where
+module _ (v : List ℕ) (t : ℕ) (s : Kept) (n : length v ≡ 16) (o : Ordered s) (lax : s .full ≡ false) where
   abbrev l : List (List ℕ)
   l = o .list
 
@@ -300,19 +307,19 @@ module _ (v : List ℕ) (s : Kept) (n : length v ≡ 16) (o : Ordered s) (lax : 
     inside = omega (arith, held .0)
 
     listed : (e : Order) → orderOf (row (s .out) j) v ≡ e → orderOf (getD l j []) v ≡ e
-    listed e p = ap (λ (a : List ℕ). orderOf a v) (sym (same-row (o .room) v l s n (o .holds) lax (held .0) (held .1) (held .2) j inside)) ∙ p
+    listed e p = ap (λ (a : List ℕ). orderOf a v) (sym (same-row (o .room) v t l s n (o .holds) lax (held .0) (held .1) (held .2) j inside)) ∙ p
 
-    -- it is the address: there is nothing to keep
-    pub keep-met : orderOf (row (s .out) j) v ≡ Same → s ≡ keepIn v s
-    keep-met e = there (o .room) v l s n (o .holds) lax (held .0) (held .1) (held .2) j inside (listed Same e)
+    -- it is the address: only its lifetime may change
+    pub keep-met : orderOf (row (s .out) j) v ≡ Same → record { out = s .out; lives = lowered j t (s .lives); count = s .count; full = s .full } ≡ keepIn v t s
+    keep-met e = there (o .room) v t l s n (o .holds) lax (held .0) (held .1) (held .2) j inside (listed Same e)
 
     -- it comes before the address, or after it
     pub seek-above : orderOf (row (s .out) j) v ≡ Before → seek (s .count - (j + 1)) (s .out) v (j + 1) (s .count) ≡ seek (s .count) (s .out) v 0 (s .count)
     seek-above e =
-        among (o .room) v l s n (o .holds) lax (held .0) (held .1) (held .2) (j + 1) (s .count)
-        (above (o .room) v l s n (o .holds) lax (held .0) (held .1) (held .2) j inside (listed Before e)) (omega (arith, held .0, rank-within v l)) (omega (arith, held .0))
+        among (o .room) v t l s n (o .holds) lax (held .0) (held .1) (held .2) (j + 1) (s .count)
+        (above (o .room) v t l s n (o .holds) lax (held .0) (held .1) (held .2) j inside (listed Before e)) (omega (arith, held .0, rank-within v l)) (omega (arith, held .0))
 
     pub seek-below : orderOf (row (s .out) j) v ≡ After → seek (j - 0) (s .out) v 0 j ≡ seek (s .count) (s .out) v 0 (s .count)
     seek-below e =
-        among (o .room) v l s n (o .holds) lax (held .0) (held .1) (held .2) 0 j (omega arith)
-        (below (o .room) v l s n (o .holds) lax (held .0) (held .1) (held .2) j (listed After e)) (omega (arith, inside))
+        among (o .room) v t l s n (o .holds) lax (held .0) (held .1) (held .2) 0 j (omega arith)
+        (below (o .room) v t l s n (o .holds) lax (held .0) (held .1) (held .2) j (listed After e)) (omega (arith, inside))

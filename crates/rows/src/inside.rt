@@ -1,12 +1,13 @@
-// Rows of sixteen octets, ascending, each address once (specs/Rows). An address comes as two numbers of 64 bits.
+// Rows of sixteen octets, ascending, each address once, and their lifetimes beside them (specs/Rows). An address comes as two numbers of 64 bits.
 ghost use mathlib.Core.Path.{_≡_};
 ghost use mathlib.Core.Bool.{false};
+ghost use mathlib.Core.List.{[], _∷_};
 ghost use Prim.Native.Nat.{_+_, _-_, _*_, _^_, _≤_, _<_};
 ghost use lib.Dec.{eqb};
 ghost use lib.ListN.{length, getD, take, drop};
 ghost use Rattle.address.specs.Order.{orderOf};
 ghost use Rattle.rows.specs.Halves.{addressOf};
-ghost use Rattle.rows.specs.Rows.{seek, moved, putAt, maxHints, maxFigures, kept, keepAt, keepIn, Ordered};
+ghost use Rattle.rows.specs.Rows.{seek, moved, putAt, lowered, maxHints, maxFigures, kept, keepAt, keepIn, Ordered};
 use address::Order;
 
 // How many hints there are, and the figures: the count, the mark, then the hints (specs/Rows). A hint is the row where an address was
@@ -62,7 +63,7 @@ fn place(out: &[u8], a: usize, b: usize, high: u64, low: u64) -> usize
 // Moves the octets from k up to c sixteen further.
 fn shift(out: &mut [u8], k: usize, c: usize)
     requires { ⌜ (k ≤ c) × (c + 16 ≤ length (now out)) ⌝ }
-    ensures { λ _. ⌜ now (out .exit) ≡ moved k c (now (out .entry)) ⌝ }
+    ensures { λ _. ⌜ now (out .exit) ≡ moved 16 k c (now (out .entry)) ⌝ }
 {
     let mut j = c;
     while k < j {
@@ -74,18 +75,49 @@ fn shift(out: &mut [u8], k: usize, c: usize)
 // Puts an address at the octet k, and moves what stands from k up to c.
 fn put(out: &mut [u8], k: usize, c: usize, high: u64, low: u64)
     requires { ⌜ (k ≤ c) × (c + 16 ≤ length (now out)) ⌝ }
-    ensures { λ _. ⌜ now (out .exit) ≡ putAt k c (addressOf high low) (now (out .entry)) ⌝ }
+    ensures { λ _. ⌜ now (out .exit) ≡ putAt 16 k c (addressOf high low) (now (out .entry)) ⌝ }
 {
     shift(out, k, c);
     octets::numbers::write(out, k, high);
     octets::numbers::write(out, k + 8, low);
 }
 
-// Puts an address at the row k, unless it stands there; where there is no room, that is marked.
-fn keep_at(out: &mut [u8], figures: &mut [usize; FIGURES], k: usize, high: u64, low: u64)
-    requires { ⌜ (length (now figures) ≡ maxFigures) × (getD (now figures) 0 0 * 16 ≤ length (now out)) ⌝ }
+// Puts a lifetime at k, and moves what stands from k up to c one further.
+fn put_life(lives: &mut [u32], k: usize, c: usize, ttl: u32)
+    requires { ⌜ (k ≤ c) × (c < length (now lives)) ⌝ }
+    ensures { λ _. ⌜ now (lives .exit) ≡ putAt 1 k c (ttl ∷ []) (now (lives .entry)) ⌝ }
+{
+    let mut j = c;
+    while k < j {
+        j -= 1;
+        lives[j + 1] = lives[j];
+    }
+    lives[k] = ttl;
+}
+
+// Makes the lifetime at k this one where it is less.
+fn lower(lives: &mut [u32], k: usize, ttl: u32)
+    requires { ⌜ k < length (now lives) ⌝ }
+    ensures { λ _. ⌜ now (lives .exit) ≡ lowered k ttl (now (lives .entry)) ⌝ }
+{
+    if ttl < lives[k] {
+        lives[k] = ttl;
+    }
+}
+
+// Puts an address at the row k with its lifetime; where it stands there, the lesser lifetime stays; where there is no room, that is marked.
+fn keep_at(
+    out: &mut [u8],
+    lives: &mut [u32],
+    figures: &mut [usize; FIGURES],
+    k: usize,
+    high: u64,
+    low: u64,
+    ttl: u32,
+)
+    requires { ⌜ (length (now figures) ≡ maxFigures) × (getD (now figures) 0 0 * 16 ≤ length (now out)) × (length (now lives) * 16 ≡ length (now out)) ⌝ }
     requires { ⌜ (k ≤ getD (now figures) 0 0) × (eqb (getD (now figures) 1 0) 1 ≡ false) ⌝ }
-    ensures { λ _. ⌜ (kept (now (out .exit)) (now (figures .exit)) ≡ keepAt k (addressOf high low) (kept (now (out .entry)) (now (figures .entry)))) × (length (now (figures .exit)) ≡ maxFigures) × (getD (now (figures .exit)) 0 0 * 16 ≤ length (now (out .entry))) ⌝ }
+    ensures { λ _. ⌜ (kept (now (out .exit)) (now (lives .exit)) (now (figures .exit)) ≡ keepAt k (addressOf high low) ttl (kept (now (out .entry)) (now (lives .entry)) (now (figures .entry)))) × (length (now (figures .exit)) ≡ maxFigures) × (getD (now (figures .exit)) 0 0 * 16 ≤ length (now (out .entry))) ⌝ }
 {
     let count = figures[0];
     let at = k * 16;
@@ -93,6 +125,7 @@ fn keep_at(out: &mut [u8], figures: &mut [usize; FIGURES], k: usize, high: u64, 
         let order = stands(out, at, high, low);
         match order {
             Order::Same => {
+                lower(lives, k, ttl);
                 return;
             }
             _ => {}
@@ -101,6 +134,7 @@ fn keep_at(out: &mut [u8], figures: &mut [usize; FIGURES], k: usize, high: u64, 
     let end = count * 16;
     if end + 16 <= out.len() {
         put(out, at, end, high, low);
+        put_life(lives, k, count, ttl);
         figures[0] = count + 1;
         return;
     }
@@ -110,21 +144,23 @@ fn keep_at(out: &mut [u8], figures: &mut [usize; FIGURES], k: usize, high: u64, 
 // The same at the row where it belongs, which is sought among those from a to b and becomes the hint at a spot.
 fn keep_among(
     out: &mut [u8],
+    lives: &mut [u32],
     figures: &mut [usize; FIGURES],
     spot: usize,
     a: usize,
     b: usize,
     high: u64,
     low: u64,
+    ttl: u32,
 )
-    requires { ⌜ (length (now figures) ≡ maxFigures) × (getD (now figures) 0 0 * 16 ≤ length (now out)) ⌝ }
+    requires { ⌜ (length (now figures) ≡ maxFigures) × (getD (now figures) 0 0 * 16 ≤ length (now out)) × (length (now lives) * 16 ≡ length (now out)) ⌝ }
     requires { ⌜ (2 ≤ spot) × (spot < maxFigures) × (eqb (getD (now figures) 1 0) 1 ≡ false) ⌝ }
     requires { ⌜ (a ≤ b) × (b ≤ getD (now figures) 0 0) × (seek (b - a) (now out) (addressOf high low) a b ≡ seek (getD (now figures) 0 0) (now out) (addressOf high low) 0 (getD (now figures) 0 0)) ⌝ }
-    ensures { λ _. ⌜ (kept (now (out .exit)) (now (figures .exit)) ≡ keepIn (addressOf high low) (kept (now (out .entry)) (now (figures .entry)))) × (length (now (figures .exit)) ≡ maxFigures) × (getD (now (figures .exit)) 0 0 * 16 ≤ length (now (out .entry))) ⌝ }
+    ensures { λ _. ⌜ (kept (now (out .exit)) (now (lives .exit)) (now (figures .exit)) ≡ keepIn (addressOf high low) ttl (kept (now (out .entry)) (now (lives .entry)) (now (figures .entry)))) × (length (now (figures .exit)) ≡ maxFigures) × (getD (now (figures .exit)) 0 0 * 16 ≤ length (now (out .entry))) ⌝ }
 {
     let k = place(out, a, b, high, low);
     figures[spot] = k;
-    keep_at(out, figures, k, high, low);
+    keep_at(out, lives, figures, k, high, low, ttl);
 }
 
 // A number of 64 bits in fewer, for a spot.
@@ -142,11 +178,18 @@ fn spot_of(high: u64, low: u64) -> usize
     (a % 4294967296 * 2654435761 / 16777216) as usize % HINTS
 }
 
-// Keeps an address in its place, unless it is there; where there is no room, that is marked. The row of the hint mostly is the address;
-// if not, it tells where to seek it.
-pub fn keep(out: &mut [u8], figures: &mut [usize; FIGURES], high: u64, low: u64)
-    requires { ⌜ (length (now figures) ≡ maxFigures) × (getD (now figures) 0 0 * 16 ≤ length (now out)) × Ordered (kept (now out) (now figures)) ⌝ }
-    ensures { λ _. ⌜ (kept (now (out .exit)) (now (figures .exit)) ≡ keepIn (addressOf high low) (kept (now (out .entry)) (now (figures .entry)))) × (length (now (figures .exit)) ≡ maxFigures) × (getD (now (figures .exit)) 0 0 * 16 ≤ length (now (out .entry))) ⌝ }
+// Keeps an address in its place with its lifetime, the lesser one where it is there; where there is no room, that is marked. The row of the
+// hint mostly is the address; if not, it tells where to seek it.
+pub fn keep(
+    out: &mut [u8],
+    lives: &mut [u32],
+    figures: &mut [usize; FIGURES],
+    high: u64,
+    low: u64,
+    ttl: u32,
+)
+    requires { ⌜ (length (now figures) ≡ maxFigures) × (getD (now figures) 0 0 * 16 ≤ length (now out)) × (length (now lives) * 16 ≡ length (now out)) × Ordered (kept (now out) (now lives) (now figures)) ⌝ }
+    ensures { λ _. ⌜ (kept (now (out .exit)) (now (lives .exit)) (now (figures .exit)) ≡ keepIn (addressOf high low) ttl (kept (now (out .entry)) (now (lives .entry)) (now (figures .entry)))) × (length (now (figures .exit)) ≡ maxFigures) × (getD (now (figures .exit)) 0 0 * 16 ≤ length (now (out .entry))) ⌝ }
 {
     if figures[1] == 1 {
         return;
@@ -158,17 +201,18 @@ pub fn keep(out: &mut [u8], figures: &mut [usize; FIGURES], high: u64, low: u64)
         let order = stands(out, hint * 16, high, low);
         match order {
             Order::Same => {
+                lower(lives, hint, ttl);
                 return;
             }
             Order::Before => {
-                keep_among(out, figures, spot, hint + 1, count, high, low);
+                keep_among(out, lives, figures, spot, hint + 1, count, high, low, ttl);
                 return;
             }
             Order::After => {
-                keep_among(out, figures, spot, 0, hint, high, low);
+                keep_among(out, lives, figures, spot, 0, hint, high, low, ttl);
                 return;
             }
         }
     }
-    keep_among(out, figures, spot, 0, count, high, low);
+    keep_among(out, lives, figures, spot, 0, count, high, low, ttl);
 }

@@ -23,26 +23,29 @@ element-write-figures c = search needs
 
 keep-at-requires : tie.Need-keep-at-requires
 keep-at-requires c κs =
-    let a = c .before .before .before .before .before .args in
-    let p = c .before .before .before .before .before .pre in
-    let k = c .before .before .place in
+    let a = c .before .before .before .before .before .before .before .args in
+    let p = c .before .before .before .before .before .before .before .pre in
+    let k = c .before .before .before .place in
     let g = getD-set-other (a .figures .now) (a .spot) 0 (k .result) 0 (λ z. omega arith) in
     let f = getD-set-other (a .figures .now) (a .spot) 1 (k .result) 0 (λ z. omega arith) in (
-      (length-set (a .figures .now) (a .spot) (k .result) ∙ p .0 .0, omega (arith, g, p .0 .1)),
+      (length-set (a .figures .now) (a .spot) (k .result) ∙ p .0 .0, omega (arith, g, p .0 .1), p .0 .2),
       (omega (arith, g, k .ensures .1, p .1 .1 .1), ap (λ (b : ℕ). eqb b 1) f ∙ p .1 .0 .2),
     )
 
 same-length : tie.Need-same-length
 same-length c = search needs
 
+same-length-2 : tie.Need-same-length-2
+same-length-2 c = search needs
+
 returns : tie.Need-returns
 returns c =
-    let a = c .before .before .before .before .before .before .before .before .args in
-    let p = c .before .before .before .before .before .before .before .before .pre in
+    let a = c .before .before .before .before .before .before .before .before .before .before .before .before .args in
+    let p = c .before .before .before .before .before .before .before .before .before .before .before .before .pre in
     let v = addressOf (a .high) (a .low) in
-    let k = c .before .before .before .before .before .place in
-    let e = c .before .before .keep-at .ensures in
-    (e .0 ∙ ap (keepAt (k .result) v) (kept-hint (a .out .now) (a .figures .now) (a .spot) (k .result) (p .1 .0 .0)) ∙ keep-at v (kept (a .out .now) (a .figures .now)) (k .result) (p .1 .0 .2) (k .ensures .0 ∙ p .1 .1 .2), e .1, e .2)
+    let k = c .before .before .before .before .before .before .before .before .place in
+    let e = c .before .before .before .before .keep-at .ensures in
+    (e .0 ∙ ap (keepAt (k .result) v (a .ttl)) (kept-hint (a .out .now) (a .lives .now) (a .figures .now) (a .spot) (k .result) (p .1 .0 .0)) ∙ keep-at v (a .ttl) (kept (a .out .now) (a .lives .now) (a .figures .now)) (k .result) (p .1 .0 .2) (k .ensures .0 ∙ p .1 .1 .2), e .1, e .2)
 
 pub keep-among-spec : {M : Type 1} → statement M
 keep-among-spec =
@@ -53,4 +56,5 @@ keep-among-spec =
     element-write-figures
     keep-at-requires
     same-length
+    same-length-2
     returns)

@@ -11,13 +11,13 @@ use Rattle.rows.proofs.inside.shift.Statement.{statement}
 use Rattle.rows.proofs.inside.shift.Tie as tie
 
 abbrev Inv-loop : tie.InvT-loop
-Inv-loop out₀ k c j₀ out j = (k ≤ j) × (j ≤ c) × (out ≡ moved j c out₀) × (length out ≡ length out₀)
+Inv-loop out₀ k c j₀ out j = (k ≤ j) × (j ≤ c) × (out ≡ moved 16 j c out₀) × (length out ≡ length out₀)
 
 abbrev μ-loop : tie.MeasureT-loop
 μ-loop out₀ k c j₀ out j = j
 
 loop-holds : tie.Need-loop-holds Inv-loop μ-loop
-loop-holds c = (omega arith, omega arith, moved-none (c .args .c) (c .args .out .now), refl)
+loop-holds c = (omega arith, omega arith, moved-none 16 (c .args .c) (c .args .out .now), refl)
 
 sub-j : tie.Need-sub-j Inv-loop μ-loop
 sub-j c = search needs
@@ -41,8 +41,8 @@ loop-again c =
     let e : l .j ≡ suc (l .j - 1) = omega arith in (
       omega arith,
       omega arith,
-      ap (λ (o : List ℕ). set o (l .j - 1 + 16) (getD o (l .j - 1) 0)) (l .inv .2 ∙ ap (λ (n : ℕ). moved n (a .c) (a .out .now)) e)
-          ∙ moved-one (l .j - 1) (a .c) (a .out .now) (omega arith) (omega arith),
+      ap (λ (o : List ℕ). set o (l .j - 1 + 16) (getD o (l .j - 1) 0)) (l .inv .2 ∙ ap (λ (n : ℕ). moved 16 n (a .c) (a .out .now)) e)
+          ∙ moved-one 16 (l .j - 1) (a .c) (a .out .now) (omega arith) (omega arith) (omega arith),
       simp length-set (l .inv .3),
     )
 
@@ -54,7 +54,7 @@ returns c =
     let l = c .before .loop in
     let a = c .before .before .args in
     let e : l .j ≡ a .k = omega arith in
-    l .inv .2 ∙ ap (λ (n : ℕ). moved n (a .c) (a .out .now)) e
+    l .inv .2 ∙ ap (λ (n : ℕ). moved 16 n (a .c) (a .out .now)) e
 
 pub shift-spec : {M : Type 1} → statement M
 shift-spec =
