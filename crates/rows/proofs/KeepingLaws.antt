@@ -22,11 +22,11 @@ use Rattle.rows.specs.Rows.{row, seek, putAt, lowered, Kept, keepIn, Hol
 use Rattle.rows.proofs.RowsLaws.{seek-end, seek-right, seek-left, keep-full, keep-at, keep-found, keep-new, keep-over}
 
 -- ---- the place of an address: after all that come before it
-rank : List ℕ → List (List ℕ) → ℕ
+unfoldable pub rank : List ℕ → List (List ℕ) → ℕ
 rank v [] = 0
 rank v (a ∷ l) = choose (orderOf a v) (suc (rank v l)) 0 0
 
-rank-within : (v : List ℕ) (l : List (List ℕ)) → rank v l ≤ length l
+pub rank-within : (v : List ℕ) (l : List (List ℕ)) → rank v l ≤ length l
 unfolding rank
 rank-within v [] = omega arith
 rank-within v (a ∷ l) = go (orderOf a v) (rank-within v l)
@@ -101,7 +101,7 @@ module _ (v : List ℕ) (l : List (List ℕ)) (z : List ℕ) (r : Each 16 l) (s 
       go (no h) ih = seek-end (suc most) (flat l ++ z) v a b (omega (arith, h)) ∙ (let e : a ≡ rank v l = omega (arith, h) in e)
 
 -- ---- an address put in its place
-insert-found : (v : List ℕ) (l : List (List ℕ)) → rank v l < length l → orderOf (getD l (rank v l) []) v ≡ Same → insert v l ≡ l
+pub insert-found : (v : List ℕ) (l : List (List ℕ)) → rank v l < length l → orderOf (getD l (rank v l) []) v ≡ Same → insert v l ≡ l
 unfolding rank insert
 insert-found v [] h e = absurd (omega arith)
 insert-found v (a ∷ l) h e = go (orderOf a v) refl h e (insert-found v l)
@@ -113,7 +113,7 @@ insert-found v (a ∷ l) h e = go (orderOf a v) refl h e (insert-found v l)
     go Same q h e ih = refl
     go After q h e ih = absurd (let z : _≡_ {A = ℕ} 0 1 = cc in omega arith)
 
-insert-new : (v : List ℕ) (l : List (List ℕ)) → (rank v l < length l → orderOf (getD l (rank v l) []) v ≡ Same → ⊥)
+pub insert-new : (v : List ℕ) (l : List (List ℕ)) → (rank v l < length l → orderOf (getD l (rank v l) []) v ≡ Same → ⊥)
     → insert v l ≡ take (rank v l) l ++ (v ∷ drop (rank v l) l)
 unfolding rank insert
 insert-new v [] n = refl
@@ -193,7 +193,7 @@ module _ (room : ℕ) (v : List ℕ) (t : ℕ) (l : List (List ℕ)) (s : Kept) 
     long = ap length out ∙ omega (arith, length-append (flat l) rest, flat-length 16 l (h .rows), length-blank ((room - length l) * 16))
 
     -- what is kept of an address that stands in a row: the lesser lifetime
-    abbrev again : ℕ → Kept
+    abbrev pub again : ℕ → Kept
     again j = record { out = s .out; lives = lowered j t (s .lives); count = s .count; full = s .full }
 
     there : (j : ℕ) → j < length l → orderOf (getD l j []) v ≡ Same → again j ≡ keepIn v t s
@@ -221,62 +221,67 @@ module _ (room : ℕ) (v : List ℕ) (t : ℕ) (l : List (List ℕ)) (s : Kept) 
         go (yes m) = absurd (let z : _≡_ {A = ℕ} 0 1 = cc (e, rank-before v l j m) in omega arith)
         go (no m) = omega (arith, m)
 
-    found : k < length l → orderOf (getD l k []) v ≡ Same → Holds room (insert v l) (keepIn v t s)
-    found q e =
-        subst (λ (c : Kept). Holds room (insert v l) c) (there k q e)
-        (subst (λ (m : List (List ℕ)). Holds room m (again k)) (sym (insert-found v l q e)) record { rows = h .rows; ascending = h .ascending; stands = h .stands })
-
     module _ (m : k < length l → orderOf (getD l k []) v ≡ Same → ⊥) where
       absent : k < s .count → orderOf (row (s .out) k) v ≡ Same → ⊥
       absent q e =
           let q′ : k < length l = omega (arith, count) in
           m q′ (sym (ap (λ (a : List ℕ). orderOf a v) (same-row k q′)) ∙ e)
 
-      longer : length (insert v l) ≡ suc (length l)
+      pub longer : length (insert v l) ≡ suc (length l)
       longer =
           ap length (insert-new v l m)
           ∙ omega (arith, length-append (take k l) (v ∷ drop k l), length-take k l, length-drop k l, rank-within v l)
 
-      newly : length l < room
-          → record { out = putAt 16 (k * 16) (s .count * 16) v (s .out); lives = putAt 1 k (s .count) (t ∷ []) (s .lives); count = s .count + 1; full = false } ≡ keepIn v t s
-      newly q = keep-new v t s k absent (omega (arith, long, count)) ∙ keep-at v t s k lax place
+    -- what is kept: v stood there, or it is put in its place, or there is no room
+    abbrev pub added : Kept
+    added = record { out = putAt 16 (k * 16) (s .count * 16) v (s .out); lives = putAt 1 k (s .count) (t ∷ []) (s .lives); count = s .count + 1; full = false }
 
-      new : length l < room → Holds room (insert v l) (keepIn v t s)
-      new q =
-          let d = room - length l in
-          let e : room - length (insert v l) ≡ d - 1 = omega (arith, longer) in
-          let o : putAt 16 (k * 16) (s .count * 16) v (s .out) ≡ flat (insert v l) ++ blank ((room - length (insert v l)) * 16) =
-          (λ i. putAt 16 (k * 16) (count i * 16) v ((out ∙ ap (λ (x : List ℕ). flat l ++ x) (blank-more d (omega arith))) i))
-          ∙ put-flat v l (blank 16) (blank ((d - 1) * 16)) k (h .rows) (length-blank 16) (rank-within v l)
-          ∙ sym (λ i. flat (insert-new v l m i) ++ blank (e i * 16)) in
-          subst (λ (c : Kept). Holds room (insert v l) c) (newly q) record {
-            rows = insert-rows v l n (h .rows);
-            ascending = insert-ascending v l (h .ascending);
-            stands = inl (refl, omega (arith, count, longer), omega (arith, longer), o);
-          }
+    abbrev pub past : Kept
+    past = record { out = s .out; lives = s .lives; count = s .count; full = true }
 
-      over : room ≤ length l → Holds room (insert v l) (keepIn v t s)
-      over q =
-          let w : record { out = s .out; lives = s .lives; count = s .count; full = true } ≡ keepIn v t s =
-          keep-over v t s k absent (omega (arith, long, count)) ∙ keep-at v t s k lax place in
-          subst (λ (c : Kept). Holds room (insert v l) c) w record {
-            rows = insert-rows v l n (h .rows);
-            ascending = insert-ascending v l (h .ascending);
-            stands = inr (refl, omega (arith, longer));
-          }
-
-      apart : Dec (length l < room) → Holds room (insert v l) (keepIn v t s)
-      apart (yes q) = new q
-      apart (no q) = over (omega (arith, q))
-
-    kept-lax : Holds room (insert v l) (keepIn v t s)
-    kept-lax = go (decLt k (length l)) (orderOf (getD l k []) v) refl
+    pub keep-cases : (P : Kept → Type 0)
+        → (k < length l → orderOf (getD l k []) v ≡ Same → P (again k))
+        → ((k < length l → orderOf (getD l k []) v ≡ Same → ⊥) → length l < room → P added)
+        → ((k < length l → orderOf (getD l k []) v ≡ Same → ⊥) → room ≤ length l → P past)
+        → P (keepIn v t s)
+    keep-cases P found new over = go (decLt k (length l)) (orderOf (getD l k []) v) refl
       where
-        go : Dec (k < length l) → (o : Order) → orderOf (getD l k []) v ≡ o → Holds room (insert v l) (keepIn v t s)
-        go (yes q) Same e = found q e
+        apart : (k < length l → orderOf (getD l k []) v ≡ Same → ⊥) → Dec (length l < room) → P (keepIn v t s)
+        apart m (yes q) = subst P (keep-new v t s k (absent m) (omega (arith, long, count)) ∙ keep-at v t s k lax place) (new m q)
+        apart m (no q) = subst P (keep-over v t s k (absent m) (omega (arith, long, count, q)) ∙ keep-at v t s k lax place) (over m (omega (arith, q)))
+
+        go : Dec (k < length l) → (o : Order) → orderOf (getD l k []) v ≡ o → P (keepIn v t s)
+        go (yes q) Same e = subst P (there k q e) (found q e)
         go (yes q) Before e = apart (λ q f. let z : _≡_ {A = ℕ} 0 1 = cc in omega arith) (decLt (length l) room)
         go (yes q) After e = apart (λ q f. let z : _≡_ {A = ℕ} 0 1 = cc in omega arith) (decLt (length l) room)
         go (no q) o e = apart (λ p f. q p) (decLt (length l) room)
+
+    kept-lax : Holds room (insert v l) (keepIn v t s)
+    kept-lax = keep-cases (Holds room (insert v l)) found new over
+      where
+        found : k < length l → orderOf (getD l k []) v ≡ Same → Holds room (insert v l) (again k)
+        found q e = subst (λ (m : List (List ℕ)). Holds room m (again k)) (sym (insert-found v l q e)) record { rows = h .rows; ascending = h .ascending; stands = h .stands }
+
+        new : (k < length l → orderOf (getD l k []) v ≡ Same → ⊥) → length l < room → Holds room (insert v l) added
+        new m q =
+            let d = room - length l in
+            let e : room - length (insert v l) ≡ d - 1 = omega (arith, longer m) in
+            let o : putAt 16 (k * 16) (s .count * 16) v (s .out) ≡ flat (insert v l) ++ blank ((room - length (insert v l)) * 16) =
+            (λ i. putAt 16 (k * 16) (count i * 16) v ((out ∙ ap (λ (x : List ℕ). flat l ++ x) (blank-more d (omega arith))) i))
+            ∙ put-flat v l (blank 16) (blank ((d - 1) * 16)) k (h .rows) (length-blank 16) (rank-within v l)
+            ∙ sym (λ i. flat (insert-new v l m i) ++ blank (e i * 16)) in
+            record {
+              rows = insert-rows v l n (h .rows);
+              ascending = insert-ascending v l (h .ascending);
+              stands = inl (refl, omega (arith, count, longer m), omega (arith, longer m), o);
+            }
+
+        over : (k < length l → orderOf (getD l k []) v ≡ Same → ⊥) → room ≤ length l → Holds room (insert v l) past
+        over m q = record {
+          rows = insert-rows v l n (h .rows);
+          ascending = insert-ascending v l (h .ascending);
+          stands = inr (refl, omega (arith, longer m));
+        }
 
   -- keeping v keeps this true of the list with v
   pub keep-holds : Holds room (insert v l) (keepIn v t s)

@@ -1,3 +1,4 @@
 pub mod HalvesLaws
 pub mod RowsLaws
 pub mod KeepingLaws
+pub mod LivedLaws
