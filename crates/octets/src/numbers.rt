@@ -3,6 +3,7 @@ ghost use mathlib.Core.Path.{_≡_};
 ghost use Prim.Native.Nat.{_+_, _*_, _^_, _≤_, _<_};
 ghost use lib.ListN.{length, take, drop};
 ghost use lib.Seq.{paste};
+ghost use Rattle.octets.specs.Octets.{blank};
 ghost use Rattle.octets.specs.Numbers.{valueOf, octetsOf};
 
 // An octet as a number of 64 bits.
@@ -37,6 +38,18 @@ pub fn write(out: &mut [u8], at: usize, v: u64)
     let mut i: usize = 0;
     while i < 8 {
         out[at + i] = ((v >> (8 * (7 - i))) % 256) as u8;
+        i += 1;
+    }
+}
+
+// Zeros from end to end, for a list of numbers.
+pub fn clear(list: &mut [u32])
+    ensures { λ _. ⌜ now (list .exit) ≡ blank (length (now (list .entry))) ⌝ }
+{
+    let n = list.len();
+    let mut i: usize = 0;
+    while i < n {
+        list[i] = 0;
         i += 1;
     }
 }
