@@ -1,66 +1,92 @@
 -- From the state that a search leaves to the answer: the work against the limit, what is kept against the room. Assumes nothing.
-use Prim.Native.Nat.{ℕ, suc, _+_, _-_, _*_, _/_, _%_, _^_, _≤_, _<_}
+use Prim.Native.Nat.{ℕ, suc, _+_, _-_, _*_, _/_, _%_, _^_, _≤_, _<_, min}
 use mathlib.Core.Path.{_≡_, refl, sym, ap, subst, _∙_}
 use mathlib.Core.Logic.{inl, inr, ⊎-elim}
-use mathlib.Core.Bool.{Bool, true, false}
+use mathlib.Core.Bool.{Bool, true, false, _&&_}
 use mathlib.Core.List.{List, [], _∷_, _++_}
 use native.Mathlib.Decide.{decLt}
 use native.Mathlib.Omega.{arith}
 use lib.Dec.{eqb}
 use lib.ListN.{length, getD, replicate}
 use borrow.Author.Tests.{lt-ltb, le-ltb, eqb-true}
-use Rattle.octets.specs.Octets.{blank, flat}
+use Rattle.octets.specs.Octets.{blank, same, flat}
 use Rattle.octets.specs.Answers.{answering, refusal}
 use Rattle.octets.proofs.OctetLaws.{length-blank}
 use Rattle.chains.specs.Lists.{In, pick}
-use Rattle.chains.specs.Graph.{Graph, Sound}
+use Rattle.chains.specs.Graph.{Graph, Sound, maxTtl}
 use Rattle.chains.specs.Chain.{lastLength, spelt}
 use Rattle.chains.specs.Listing.{chainsOf, workOf}
 use Rattle.chains.specs.Addresses.{insert, gather, addressesOf, spell}
+use Rattle.chains.specs.Lifetimes.{leastTtl, lifetimeIn, lifetimeOf}
 use Rattle.chains.proofs.Listed.{listed-chain}
+use Rattle.chains.proofs.LifetimeLaws.{least-below, lifetime-spell}
 use Rattle.chains.proofs.SpellingLaws.{spelt-length, spell-spelt, addresses-spell}
-use Rattle.rows.specs.Rows.{Kept, maxFigures, kept, keepIn, Holds}
+use Rattle.rows.specs.Rows.{Kept, maxFigures, kept, keepIn, Holds, Lived}
 use Rattle.search.specs.Search.{Records, graphOf, State, visit, run, searched}
 use Rattle.octets.specs.Numbers.{octetsOf}
 use Rattle.rows.specs.Halves.{addressOf}
 use Rattle.search.specs.Links.{Linked, Numbered, Fresh, Memory, memory, stateOf, unusedOf, searchOf, Fit, Done}
-use Rattle.search.specs.Answers.{numberOf, answerOf, outputOf}
+use Rattle.search.specs.Answers.{numberOf, answerOf, outputOf, livesOf}
 use Rattle.rows.proofs.HalvesLaws.{address-length, address-small}
 use Rattle.search.proofs.LinkLaws.{marks-none}
 use Rattle.search.proofs.SearchLaws.{visit-over, visit-within, run-over}
 use Rattle.rows.proofs.KeepingLaws.{keep-holds, insert-length}
+use Rattle.rows.proofs.LivedLaws.{keep-lived}
 
 -- ---- a run within the limit, and one beyond it
 module _ {N : Type 0} (g : Graph N) (limit b : ℕ) (a : List ℕ) where
-  visit-work : (s : State) (p : List ℕ) → s .0 ≤ limit → visit g limit b a s p .0 ≡ s .0 + 1
-  visit-work s p w = ap (λ (r : State). r .0) (visit-within g limit b a s p w)
+  visit-work : (s : State) (p : List ℕ) → s .0 ≤ limit → visit g limit b a maxTtl s p .0 ≡ s .0 + 1
+  visit-work s p w = ap (λ (r : State). r .0) (visit-within g limit b a maxTtl s p w)
 
   visit-holds : (room : ℕ) (s : State) (l : List (List ℕ)) (p : List ℕ) → (lastLength g b p ≡ 0 → length (spell g b a p) ≡ 16) → s .0 ≤ limit → Holds room l (s .1)
-      → Holds room (pick (eqb (lastLength g b p) 0) (insert (spell g b a p) l) l) (visit g limit b a s p .1)
-  visit-holds room s l p n w h = rw (visit-within g limit b a s p w) (go (eqb (lastLength g b p) 0) refl)
+      → Holds room (pick (eqb (lastLength g b p) 0) (insert (spell g b a p) l) l) (visit g limit b a maxTtl s p .1)
+  visit-holds room s l p n w h = rw (visit-within g limit b a maxTtl s p w) (go (eqb (lastLength g b p) 0) refl)
     where
-      go : (t : Bool) → eqb (lastLength g b p) 0 ≡ t → Holds room (pick t (insert (spell g b a p) l) l) (pick t (keepIn (spell g b a p) (s .1)) (s .1))
-      go true e = keep-holds room (spell g b a p) l (s .1) (n (eqb-true (lastLength g b p) 0 e)) h
+      go : (t : Bool) → eqb (lastLength g b p) 0 ≡ t → Holds room (pick t (insert (spell g b a p) l) l) (pick t (keepIn (spell g b a p) (leastTtl g maxTtl p) (s .1)) (s .1))
+      go true e = keep-holds room (spell g b a p) (leastTtl g maxTtl p) l (s .1) (n (eqb-true (lastLength g b p) 0 e)) h
       go false e = h
 
   run-holds : (room : ℕ) (ps : List (List ℕ)) (s : State) (l : List (List ℕ)) → ((p : List ℕ) → In p ps → lastLength g b p ≡ 0 → length (spell g b a p) ≡ 16)
       → Holds room l (s .1) → s .0 + length ps ≤ limit + 1
-      → (run g limit b a s ps .0 ≡ s .0 + length ps) × Holds room (gather g b (spell g b a) l ps) (run g limit b a s ps .1)
+      → (run g limit b a maxTtl s ps .0 ≡ s .0 + length ps) × Holds room (gather g b (spell g b a) l ps) (run g limit b a maxTtl s ps .1)
   unfolding run gather
   run-holds room [] s l u h n = (omega arith, h)
   run-holds room (p ∷ ps) s l u h n =
       let w = visit-work s p (omega arith) in
-      let r = run-holds room ps (visit g limit b a s p) _ (λ q k. u q (inr k)) (visit-holds room s l p (u p (inl refl)) (omega arith) h) (omega (arith, w)) in
+      let r = run-holds room ps (visit g limit b a maxTtl s p) _ (λ q k. u q (inr k)) (visit-holds room s l p (u p (inl refl)) (omega arith) h) (omega (arith, w)) in
       (omega (arith, w, r .0), r .1)
 
-  run-beyond : (ps : List (List ℕ)) (s : State) → limit < s .0 + length ps → limit < run g limit b a s ps .0
+  -- the lifetimes beside, where l has them by the function life
+  visit-lived : (room : ℕ) (s : State) (l : List (List ℕ)) (life : List ℕ → ℕ) (p : List ℕ) → (lastLength g b p ≡ 0 → length (spell g b a p) ≡ 16) → s .0 ≤ limit
+      → Holds room l (s .1) → Lived room l life (s .1)
+      → Lived room (pick (eqb (lastLength g b p) 0) (insert (spell g b a p) l) l)
+      (λ v. pick (eqb (lastLength g b p) 0 && same (spell g b a p) v) (min (life v) (leastTtl g maxTtl p)) (life v)) (visit g limit b a maxTtl s p .1)
+  visit-lived room s l life p n w h v = rw (visit-within g limit b a maxTtl s p w) (go (eqb (lastLength g b p) 0) refl)
+    where
+      go : (t : Bool) → eqb (lastLength g b p) 0 ≡ t
+          → Lived room (pick t (insert (spell g b a p) l) l) (λ v. pick (t && same (spell g b a p) v) (min (life v) (leastTtl g maxTtl p)) (life v))
+          (pick t (keepIn (spell g b a p) (leastTtl g maxTtl p) (s .1)) (s .1))
+      go true e = keep-lived room (spell g b a p) (leastTtl g maxTtl p) l (s .1) (n (eqb-true (lastLength g b p) 0 e)) h life v (least-below g maxTtl p)
+      go false e = v
+
+  run-lived : (room : ℕ) (ps : List (List ℕ)) (s : State) (l : List (List ℕ)) (life : List ℕ → ℕ) → ((p : List ℕ) → In p ps → lastLength g b p ≡ 0 → length (spell g b a p) ≡ 16)
+      → Holds room l (s .1) → Lived room l life (s .1) → s .0 + length ps ≤ limit + 1
+      → Lived room (gather g b (spell g b a) l ps) (λ v. lifetimeIn g b (spell g b a) v (life v) ps) (run g limit b a maxTtl s ps .1)
+  unfolding run gather lifetimeIn
+  run-lived room [] s l life u h v n = v
+  run-lived room (p ∷ ps) s l life u h v n =
+      let w = visit-work s p (omega arith) in
+      run-lived room ps (visit g limit b a maxTtl s p) _ _ (λ q k. u q (inr k)) (visit-holds room s l p (u p (inl refl)) (omega arith) h)
+      (visit-lived room s l life p (u p (inl refl)) (omega arith) h v) (omega (arith, w))
+
+  run-beyond : (ps : List (List ℕ)) (s : State) → limit < s .0 + length ps → limit < run g limit b a maxTtl s ps .0
   unfolding run
   run-beyond [] s n = omega arith
-  run-beyond (p ∷ ps) s n = go (decLt limit (s .0)) (run-beyond ps (visit g limit b a s p))
+  run-beyond (p ∷ ps) s n = go (decLt limit (s .0)) (run-beyond ps (visit g limit b a maxTtl s p))
     where
-      go : Dec (limit < s .0) → (limit < visit g limit b a s p .0 + length ps → limit < run g limit b a (visit g limit b a s p) ps .0)
-          → limit < run g limit b a (visit g limit b a s p) ps .0
-      go (yes h) r = rw (visit-over g limit b a s p h, run-over g limit b a s ps h) h
+      go : Dec (limit < s .0) → (limit < visit g limit b a maxTtl s p .0 + length ps → limit < run g limit b a maxTtl (visit g limit b a maxTtl s p) ps .0)
+          → limit < run g limit b a maxTtl (visit g limit b a maxTtl s p) ps .0
+      go (yes h) r = rw (visit-over g limit b a maxTtl s p h, run-over g limit b a maxTtl s ps h) h
       go (no h) r = r (omega (arith, visit-work s p (omega (arith, h))))
 
 -- no more addresses than chains
@@ -75,23 +101,35 @@ gather-length g b f (p ∷ ps) l = let r = gather-length g b f ps (pick (eqb (la
 
 -- ---- the whole search, from nothing
 abbrev pub start : ℕ → Kept
-start room = record { out = blank (room * 16); count = 0; full = false }
+start room = record { out = blank (room * 16); lives = blank room; count = 0; full = false }
 
 begun : (room : ℕ) → Holds room [] (start room)
 unfolding flat
 begun room = record { rows = tt; ascending = tt; stands = inl (refl, refl, omega arith, ap (λ (n : ℕ). blank (n * 16)) (let z : room ≡ room - 0 = omega arith in z)) }
 
-module _ {N : Type 0} (g : Graph N) (sound : Sound g) (x : N) (limit room : ℕ) (s : State) (e : s ≡ searched g limit (blank (g .size)) x 128 (blank 16) (0, start room)) where
-  ran : s ≡ run g limit 128 (blank 16) (0, start room) (chainsOf g x)
+begun-lived : (room : ℕ) → Lived room [] (λ v. maxTtl) (start room)
+begun-lived room = record { unmet = λ v n. refl; beside = λ f. ap blank (let z : room ≡ room - 0 = omega arith in z) }
+
+module _ {N : Type 0} (g : Graph N) (sound : Sound g) (x : N) (limit room : ℕ) (s : State) (e : s ≡ searched g limit (blank (g .size)) x 128 (blank 16) maxTtl (0, start room)) where
+  ran : s ≡ run g limit 128 (blank 16) maxTtl (0, start room) (chainsOf g x)
   unfolding searched chainsOf
   ran = e
+
+  sixteen : (p : List ℕ) → In p (chainsOf g x) → lastLength g 128 p ≡ 0 → length (spell g 128 (blank 16) p) ≡ 16
+  sixteen p m z = ap length (spell-spelt g sound x p (blank 16) (listed-chain g x p m .0) z (length-blank 16)) ∙ spelt-length g p
 
   within : workOf g x ≤ limit → (s .0 ≡ workOf g x) × Holds room (addressesOf g x) (s .1)
   unfolding workOf
   within h =
-      let r = run-holds g limit 128 (blank 16) room (chainsOf g x) (0, start room) []
-      (λ p m z. ap length (spell-spelt g sound x p (blank 16) (listed-chain g x p m .0) z (length-blank 16)) ∙ spelt-length g p) (begun room) (omega arith) in
+      let r = run-holds g limit 128 (blank 16) room (chainsOf g x) (0, start room) [] sixteen (begun room) (omega arith) in
       rw (ran, addresses-spell g sound x) (omega (arith, r .0), r .1)
+
+  lasting : workOf g x ≤ limit → Lived room (addressesOf g x) (lifetimeOf g x) (s .1)
+  unfolding workOf
+  lasting h =
+      let r = run-lived g limit 128 (blank 16) room (chainsOf g x) (0, start room) [] (λ v. maxTtl) sixteen (begun room) (begun-lived room) (omega arith) in
+      let f : lifetimeOf g x ≡ (λ v. lifetimeIn g 128 (spell g 128 (blank 16)) v maxTtl (chainsOf g x)) = λ i v. lifetime-spell g sound x v i in
+      rw (ran, addresses-spell g sound x, f) r
 
   beyond : limit < workOf g x → limit < s .0
   unfolding workOf
@@ -145,6 +183,10 @@ module _ {N : Type 0} (g : Graph N) (sound : Sound g) (x : N) (limit room : ℕ)
           let q : (room - length (addressesOf g x)) * 16 ≡ room * 16 - length (addressesOf g x) * 16 = omega arith in
           rw (all h .number) (all h .out ∙ ap (λ (n : ℕ). flat (addressesOf g x) ++ blank n) q)
 
+      pub found-lives : s .1 .lives ≡ livesOf g x (numberOf g x limit room) room
+      unfolding livesOf
+      found-lives = rw (all h .number) (lasting few .beside h)
+
       -- so many fit the answer
       pub found-few : s .1 .count ≤ limit
       unfolding addressesOf workOf
@@ -160,23 +202,30 @@ module _ {N : Type 0} (g : Graph N) (x : N) (number k : ℕ) (e : number ≡ suc
   unfolding outputOf
   refused-output size = rw e
 
+  pub refused-lives : (room : ℕ) → blank room ≡ livesOf g x number room
+  unfolding livesOf
+  refused-lives room = rw e
+
 -- ---- the arrays as a graph
 pub numbered-sound : (r : Records) → Numbered r → Sound (graphOf r)
 numbered-sound r n = record {
   sixteen = λ i l. address-length (getD (r .highs) i 0) (getD (r .lows) i 0);
   small = λ i l. address-small (getD (r .highs) i 0) (getD (r .lows) i 0);
   short = n .short;
+  lived = n .lived;
 }
 
 -- ---- where the search begins: every record in its list, nothing kept
-module _ (r : Records) (n : Numbered r) (next prev out : List ℕ) (limit : ℕ) (h : Fresh (r .owners) next prev) (whole : length out % 16 ≡ 0) (zeros : out ≡ blank (length out)) where
+module _ (r : Records) (n : Numbered r) (next prev out lives : List ℕ) (limit : ℕ) (h : Fresh (r .owners) next prev) (whole : length out % 16 ≡ 0) (zeros : out ≡ blank (length out))
+    (level : length lives * 16 ≡ length out) (none : lives ≡ blank (length lives)) where
   abbrev first : Memory
-  first = memory next prev out (replicate maxFigures 0) 0
+  first = memory next prev out lives (replicate maxFigures 0) 0
 
-  begins : kept (first .out) (first .figures) ≡ start (length out / 16)
+  begins : kept (first .out) (first .lives) (first .figures) ≡ start (length out / 16)
   begins =
       let q : length out ≡ length out / 16 * 16 = omega arith in
-      λ i. record { out = (zeros ∙ ap blank q) i; count = 0; full = false }
+      let y : length lives ≡ length out / 16 = omega (arith, level) in
+      λ i. record { out = (zeros ∙ ap blank q) i; lives = (none ∙ ap blank y) i; count = 0; full = false }
 
   none-used : unusedOf r first ≡ blank (length (r .owners))
   none-used = marks-none (r .owners) (blank (length (r .owners))) next prev (h .linked) refl
@@ -188,6 +237,7 @@ module _ (r : Records) (n : Numbered r) (next prev out : List ℕ) (limit : ℕ)
     linked = subst (λ (u : List ℕ). Linked (r .owners) u next prev) (sym none-used) (h .linked);
     places = refl;
     room = omega arith;
+    level = level;
     ordered = record { room = length out / 16; list = []; holds = subst (Holds (length out / 16) []) (sym begins) (begun (length out / 16)) };
     some = omega arith;
     bounded = omega arith;
@@ -198,6 +248,6 @@ module _ (r : Records) (n : Numbered r) (next prev out : List ℕ) (limit : ℕ)
   unfolding addressOf octetsOf blank
   nothing-yet = refl
 
-  pub state-first : (x : ℕ) (m′ : Memory) → Done first m′ (searchOf r limit x 128 (addressOf 0 0) first)
-      → stateOf m′ ≡ searched (graphOf r) limit (blank (length (r .owners))) x 128 (blank 16) (0, start (length out / 16))
-  state-first x m′ d = d .state ∙ λ i. searched (graphOf r) limit (none-used i) x 128 (nothing-yet i) (0, begins i)
+  pub state-first : (x : ℕ) (m′ : Memory) → Done first m′ (searchOf r limit x 128 (addressOf 0 0) maxTtl first)
+      → stateOf m′ ≡ searched (graphOf r) limit (blank (length (r .owners))) x 128 (blank 16) maxTtl (0, start (length out / 16))
+  state-first x m′ d = d .state ∙ λ i. searched (graphOf r) limit (none-used i) x 128 (nothing-yet i) maxTtl (0, begins i)

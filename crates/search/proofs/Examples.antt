@@ -1,23 +1,25 @@
--- 01's examples of lookup, with numbers for names, by computation: the answer, the output, and the state that a search comes to. Assumes nothing.
+-- 01's examples of lookup, with numbers for names, by computation: the answer, the output, the lifetimes, and the state that a search comes to. Assumes nothing.
 use Prim.Native.Nat.{ℕ, _+_, _*_, _/_}
 use mathlib.Core.Path.{_≡_, refl}
 use mathlib.Core.Bool.{Bool, true, false}
 use mathlib.Core.List.{List, [], _∷_, _++_, map}
 use Rattle.octets.specs.declared.Answer.{Answer}
-use Rattle.octets.specs.Octets.{blank, flat}
+use Rattle.octets.specs.Octets.{blank, same, flat}
 use Rattle.bits.specs.Bits.{unpack, pack}
 use Rattle.octets.specs.Answers.{answering, refusal}
 use Rattle.octets.specs.Numbers.{octetsOf}
 use Rattle.address.specs.Address.{bits, bitAt, joinOf}
 use Rattle.address.specs.Order.{orderOf}
 use Rattle.chains.specs.Lists.{upTo}
+use Rattle.chains.specs.Graph.{maxTtl}
 use Rattle.chains.specs.Chain.{lastLength, speltBit, spelt}
 use Rattle.chains.specs.Listing.{free, extend, paths, chainsFrom, chainsOf, workOf}
 use Rattle.chains.specs.Addresses.{insert, gather, addressesOf, spell}
+use Rattle.chains.specs.Lifetimes.{leastTtl, lifetimeIn, lifetimeOf}
 use Rattle.rows.specs.Halves.{addressOf}
-use Rattle.rows.specs.Rows.{seek, putAt, keepAt, keepIn}
+use Rattle.rows.specs.Rows.{seek, putAt, lowered, keepAt, keepIn}
 use Rattle.search.specs.Search.{Records, records, graphOf, State, visit, run, searched}
-use Rattle.search.specs.Answers.{numberOf, answerOf, outputOf, foundOf, writtenOf}
+use Rattle.search.specs.Answers.{numberOf, answerOf, outputOf, livesOf, foundOf, writtenOf, lastingOf}
 use Rattle.search.proofs.AnswerLaws.{start}
 
 -- 2001:db8:s:t::m, and the number that its first half is; its last is m
@@ -28,7 +30,7 @@ address s t m = 0x20 ∷ 1 ∷ 13 ∷ 184 ∷ 0 ∷ s ∷ 0 ∷ t ∷ (blank 7 +
 site : ℕ → ℕ → ℕ
 site s t = 0x20010db800000000 + s * 0x10000 + t
 
--- a name asked with a limit and an output, and what comes back: the answer, the output, and the figures of the search
+-- a name asked with a limit and an output, and what comes back: the answer, the output, the lifetimes, and the figures of the search
 record Case : Type 0 where
   table : Records
   name : ℕ
@@ -36,41 +38,44 @@ record Case : Type 0 where
   size : ℕ
   answer : Answer
   out : List ℕ
+  lives : List ℕ
   work : ℕ
   full : Bool
 
 record Outcome : Type 0 where
   answer : Answer
   out : List ℕ
+  lives : List ℕ
   work : ℕ
   full : Bool
 
 given : Case → Outcome
-unfolding numberOf answerOf outputOf flat searched run visit keepIn keepAt seek putAt chainsOf chainsFrom paths extend upTo free blank workOf addressesOf gather insert orderOf lastLength spell joinOf spelt speltBit bitAt bits unpack pack addressOf octetsOf
+unfolding numberOf answerOf outputOf livesOf lifetimeOf lifetimeIn leastTtl same flat searched run visit keepIn keepAt seek putAt lowered chainsOf chainsFrom paths extend upTo free blank workOf addressesOf gather insert orderOf lastLength spell joinOf spelt speltBit bitAt bits unpack pack addressOf octetsOf
 given c =
     let g = graphOf (c .table) in
-    let s : State = searched g (c .limit) (blank (g .size)) (c .name) 128 (blank 16) (0, start (c .size / 16)) in
-    record { answer = foundOf g (c .name) (c .limit) (c .size); out = writtenOf g (c .name) (c .limit) (c .size); work = s .0; full = s .1 .full }
+    let s : State = searched g (c .limit) (blank (g .size)) (c .name) 128 (blank 16) maxTtl (0, start (c .size / 16)) in
+    record { answer = foundOf g (c .name) (c .limit) (c .size); out = writtenOf g (c .name) (c .limit) (c .size); lives = lastingOf g (c .name) (c .limit) (c .size); work = s .0; full = s .1 .full }
 
 expected : Case → Outcome
-expected c = record { answer = c .answer; out = c .out; work = c .work; full = c .full }
+expected c = record { answer = c .answer; out = c .out; lives = c .lives; work = c .work; full = c .full }
 
 -- x.a is 4 and its own target
 loop : Records
 unfolding site
-loop = records (4 ∷ 4 ∷ []) (4 ∷ 0 ∷ []) (48 ∷ 0 ∷ []) (0 ∷ site 0 0 ∷ []) (1 ∷ 0 ∷ [])
+loop = records (4 ∷ 4 ∷ []) (4 ∷ 0 ∷ []) (48 ∷ 0 ∷ []) (0 ∷ site 0 0 ∷ []) (1 ∷ 0 ∷ []) (60 ∷ 600 ∷ [])
 
 cases : List Case
 unfolding address site blank loop
 cases =
     -- h.a is 1 and p.a 2: one carrier
     record {
-      table = records (1 ∷ 2 ∷ []) (2 ∷ 0 ∷ []) (64 ∷ 0 ∷ []) (0 ∷ site 0 5 ∷ []) (7 ∷ 0 ∷ []);
+      table = records (1 ∷ 2 ∷ []) (2 ∷ 0 ∷ []) (64 ∷ 0 ∷ []) (0 ∷ site 0 5 ∷ []) (7 ∷ 0 ∷ []) (300 ∷ 600 ∷ []);
       name = 1;
       limit = 10;
       size = 32;
       answer = answering 1 2;
       out = address 0 5 7 ++ blank 16;
+      lives = 300 ∷ 0 ∷ [];
       work = 2;
       full = false;
     }
@@ -82,39 +87,54 @@ cases =
       size = 48;
       answer = answering 2 3;
       out = address 0 0 0 ++ address 0 0 1 ++ blank 16;
+      lives = 600 ∷ 60 ∷ 0 ∷ [];
       work = 3;
       full = false;
     }
     -- its work passes the limit
-    ∷ record { table = loop; name = 4; limit = 2; size = 32; answer = refusal 6; out = blank 32; work = 3; full = false }
+    ∷ record { table = loop; name = 4; limit = 2; size = 32; answer = refusal 6; out = blank 32; lives = blank 2; work = 3; full = false }
     -- its addresses pass the room
-    ∷ record { table = loop; name = 4; limit = 3; size = 16; answer = refusal 7; out = blank 16; work = 3; full = true }
+    ∷ record { table = loop; name = 4; limit = 3; size = 16; answer = refusal 7; out = blank 16; lives = blank 1; work = 3; full = true }
     -- both: 6 comes first
-    ∷ record { table = loop; name = 4; limit = 2; size = 16; answer = refusal 6; out = blank 16; work = 3; full = true }
+    ∷ record { table = loop; name = 4; limit = 2; size = 16; answer = refusal 6; out = blank 16; lives = blank 1; work = 3; full = true }
     -- h.a is 1, p.a 2, q.a 3: the ignored 64; the last record is no A6 record, and its owner's number is that of no name
     ∷ record {
-      table = records (1 ∷ 2 ∷ 2 ∷ 3 ∷ 9 ∷ []) (2 ∷ 3 ∷ 0 ∷ 0 ∷ 0 ∷ []) (48 ∷ 64 ∷ 0 ∷ 0 ∷ 0 ∷ []) (0 ∷ 0 ∷ site 0 0 ∷ site 1 0 ∷ 0 ∷ []) (0 ∷ 1 ∷ 0 ∷ 0 ∷ 0 ∷ []);
+      table = records (1 ∷ 2 ∷ 2 ∷ 3 ∷ 9 ∷ []) (2 ∷ 3 ∷ 0 ∷ 0 ∷ 0 ∷ []) (48 ∷ 64 ∷ 0 ∷ 0 ∷ 0 ∷ []) (0 ∷ 0 ∷ site 0 0 ∷ site 1 0 ∷ 0 ∷ []) (0 ∷ 1 ∷ 0 ∷ 0 ∷ 0 ∷ []) (300 ∷ 1 ∷ 200 ∷ 1 ∷ 1 ∷ []);
       name = 1;
       limit = 10;
       size = 16;
       answer = answering 1 2;
       out = address 0 0 0;
+      lives = 200 ∷ [];
       work = 2;
       full = false;
     }
-    -- equal records count apart, their address stands once
+    -- records that differ in the TTL alone count apart, their address stands once, with the lesser
     ∷ record {
-      table = records (1 ∷ 1 ∷ []) (0 ∷ 0 ∷ []) (0 ∷ 0 ∷ []) (site 0 0 ∷ site 0 0 ∷ []) (1 ∷ 1 ∷ []);
+      table = records (1 ∷ 1 ∷ []) (0 ∷ 0 ∷ []) (0 ∷ 0 ∷ []) (site 0 0 ∷ site 0 0 ∷ []) (1 ∷ 1 ∷ []) (2147483647 ∷ 2147483646 ∷ []);
       name = 1;
       limit = 2;
       size = 16;
       answer = answering 1 2;
       out = address 0 0 1;
+      lives = 2147483646 ∷ [];
       work = 2;
       full = false;
     }
+    -- p.a, 2, leads back to h.a: the TTL of that record, on chains that repeat alone, does not count
+    ∷ record {
+      table = records (1 ∷ 2 ∷ 2 ∷ []) (2 ∷ 1 ∷ 0 ∷ []) (64 ∷ 64 ∷ 0 ∷ []) (0 ∷ 0 ∷ site 0 5 ∷ []) (7 ∷ 9 ∷ 0 ∷ []) (300 ∷ 1 ∷ 600 ∷ []);
+      name = 1;
+      limit = 3;
+      size = 16;
+      answer = answering 1 3;
+      out = address 0 5 7;
+      lives = 300 ∷ [];
+      work = 3;
+      full = false;
+    }
     -- a name that owns nothing: work 0 passes limit 0
-    ∷ record { table = loop; name = 5; limit = 0; size = 0; answer = answering 0 0; out = []; work = 0; full = false }
+    ∷ record { table = loop; name = 5; limit = 0; size = 0; answer = answering 0 0; out = []; lives = []; work = 0; full = false }
     ∷ []
 
 examples-hold : map given cases ≡ map expected cases

@@ -21,8 +21,8 @@ use Rattle.search.proofs.LinkLaws.{lists-yes, lists-owner, lists-free}
 use Rattle.search.proofs.SearchLaws.{searchedTo, to-none, to-all, to-keeps, to-skip, to-step, to-end}
 
 -- what is equal part by part
-pub memory-eq : {n n′ p p′ o o′ f f′ : List ℕ} {w w′ : ℕ} → n′ ≡ n → p′ ≡ p → o′ ≡ o → f′ ≡ f → w′ ≡ w → memory n′ p′ o′ f′ w′ ≡ memory n p o f w
-memory-eq en ep eo ef ew = λ i. memory (en i) (ep i) (eo i) (ef i) (ew i)
+pub memory-eq : {n n′ p p′ o o′ l l′ f f′ : List ℕ} {w w′ : ℕ} → n′ ≡ n → p′ ≡ p → o′ ≡ o → l′ ≡ l → f′ ≡ f → w′ ≡ w → memory n′ p′ o′ l′ f′ w′ ≡ memory n p o l f w
+memory-eq en ep eo el ef ew = λ i. memory (en i) (ep i) (eo i) (el i) (ef i) (ew i)
 
 pub done-as : (m m′ m″ : Memory) (s : State) → m″ ≡ m′ → Done m m′ s → Done m m″ s
 done-as m m′ m″ s e d = subst (λ (v : Memory). Done m v s) (sym e) d
@@ -50,7 +50,7 @@ module _ (r : Records) (u : List ℕ) (x b m : ℕ) where
       fits-is (graphOf r) u x b m (lists-free (r .owners) u x m h) (leb-true (getD (r .lengths) m 0) b l)
       (eq-eqb (getD (r .owners) m 0) x (lists-owner (r .owners) u x m h))
 
-module _ (r : Records) (limit x b : ℕ) (a : List ℕ) (m : Memory) where
+module _ (r : Records) (limit x b : ℕ) (a : List ℕ) (c : ℕ) (m : Memory) where
   abbrev n : ℕ
   n = length (r .owners)
 
@@ -58,7 +58,7 @@ module _ (r : Records) (limit x b : ℕ) (a : List ℕ) (m : Memory) where
   u = unusedOf r m
 
   abbrev to : ℕ → State
-  to i = searchedTo (graphOf r) limit u x b a (stateOf m) i
+  to i = searchedTo (graphOf r) limit u x b a c (stateOf m) i
 
   -- ---- following the links passes over nothing that fits
   pass : (d j : ℕ) → ((w : ℕ) → j ≤ w → w < j + d → lists (r .owners) u x w ≡ false) → to (j + d) ≡ to j
@@ -66,7 +66,7 @@ module _ (r : Records) (limit x b : ℕ) (a : List ℕ) (m : Memory) where
   pass (suc d) j h =
       let e : j + suc d ≡ suc (j + d) = omega arith in
       ap to e
-      ∙ to-skip (graphOf r) limit u x b a (stateOf m) (j + d) (unlisted r u x b (j + d) (h (j + d) (omega arith) (omega arith)))
+      ∙ to-skip (graphOf r) limit u x b a c (stateOf m) (j + d) (unlisted r u x b (j + d) (h (j + d) (omega arith) (omega arith)))
       ∙ pass d j (λ w l o. h w l (omega arith))
 
   pass-to : (j t : ℕ) → j ≤ t → ((w : ℕ) → j ≤ w → w < t → lists (r .owners) u x w ≡ false) → to t ≡ to j
@@ -82,6 +82,7 @@ module _ (r : Records) (limit x b : ℕ) (a : List ℕ) (m : Memory) where
     pub places : length (m′ .figures) ≡ maxFigures
     pub room : getD (m′ .figures) 0 0 * 16 ≤ length (m .out)
     pub out : length (m′ .out) ≡ length (m .out)
+    pub lives : length (m′ .lives) ≡ length (m .lives)
     pub listed : i < n → lists (r .owners) u x i ≡ true
 
   module _ (k : Linked (r .owners) u (m .next) (m .prev)) where
@@ -91,10 +92,11 @@ module _ (r : Records) (limit x b : ℕ) (a : List ℕ) (m : Memory) where
         record {
           next = refl;
           prev = refl;
-          state = to-none (graphOf r) limit u x b a (stateOf m) ∙ sym (pass-to 0 (min i n) (omega arith) (λ w p q. h .none w p (omega arith) (omega arith)));
+          state = to-none (graphOf r) limit u x b a c (stateOf m) ∙ sym (pass-to 0 (min i n) (omega arith) (λ w p q. h .none w p (omega arith) (omega arith)));
           places = t;
           room = o;
           out = refl;
+          lives = refl;
           listed = λ o. h .here o .1;
         }
 
@@ -113,8 +115,8 @@ module _ (r : Records) (limit x b : ℕ) (a : List ℕ) (m : Memory) where
 
       -- on from i, where what the records up to i give is known
       going : (m″ : Memory) (j : ℕ) → m″ .next ≡ m .next → m″ .prev ≡ m .prev → stateOf m″ ≡ to (suc i) → length (m″ .figures) ≡ maxFigures
-          → getD (m″ .figures) 0 0 * 16 ≤ length (m .out) → length (m″ .out) ≡ length (m .out) → j ≡ getD (m″ .next) i 0 → Going m″ j
-      going m″ j en ep es t o lo ej =
+          → getD (m″ .figures) 0 0 * 16 ≤ length (m .out) → length (m″ .out) ≡ length (m .out) → length (m″ .lives) ≡ length (m .lives) → j ≡ getD (m″ .next) i 0 → Going m″ j
+      going m″ j en ep es t o lo ll ej =
           let h = subst (First (lists (r .owners) u x) n (n + x) (suc i)) (sym (ej ∙ ap (λ (w : List ℕ). getD w i 0) en)) follows in
           let s : suc i ≤ min j n = below? j n (λ o. let z = h .here o .0 in omega arith) (λ o. omega arith) in
           record {
@@ -124,6 +126,7 @@ module _ (r : Records) (limit x b : ℕ) (a : List ℕ) (m : Memory) where
             places = t;
             room = o;
             out = lo;
+            lives = ll;
             listed = λ o. h .here o .1;
           }
 
@@ -133,11 +136,11 @@ module _ (r : Records) (limit x b : ℕ) (a : List ℕ) (m : Memory) where
       -- a record that is too long is passed over
       pub going-skip : (j : ℕ) → leb (getD (r .lengths) i 0) b ≡ false → j ≡ getD (m′ .next) i 0 → Going m′ j
       going-skip j l ej =
-          going m′ j (v .next) (v .prev) (at-i ∙ sym (to-skip (graphOf r) limit u x b a (stateOf m) i (long-unfit r u x b i l))) (v .places) (v .room) (v .out) ej
+          going m′ j (v .next) (v .prev) (at-i ∙ sym (to-skip (graphOf r) limit u x b a c (stateOf m) i (long-unfit r u x b i l))) (v .places) (v .room) (v .out) (v .lives) ej
 
       -- the links are as they were
-      same-links : _≡_ {A = Memory} (memory (m′ .next) (m′ .prev) (m .out) (m .figures) 0) (memory (m .next) (m .prev) (m .out) (m .figures) 0)
-      same-links = memory-eq (v .next) (v .prev) refl refl refl
+      same-links : _≡_ {A = Memory} (memory (m′ .next) (m′ .prev) (m .out) (m .lives) (m .figures) 0) (memory (m .next) (m .prev) (m .out) (m .lives) (m .figures) 0)
+      same-links = memory-eq (v .next) (v .prev) refl refl refl refl
 
       pub same-unused : unusedOf r m′ ≡ u
       same-unused = ap (unusedOf r) same-links
@@ -150,38 +153,39 @@ module _ (r : Records) (limit x b : ℕ) (a : List ℕ) (m : Memory) where
         linked = subst (λ (w : Memory). Linked (r .owners) (unusedOf r w) (w .next) (w .prev)) (sym same-links) k;
         places = v .places;
         room = subst (λ (w : ℕ). getD (m′ .figures) 0 0 * 16 ≤ w) (sym (v .out)) (v .room);
+        level = ap (λ (w : ℕ). w * 16) (v .lives) ∙ f .level ∙ sym (v .out);
         ordered = subst (λ (s : State). Ordered (s .1)) (sym at-i)
-            (to-keeps (graphOf r) limit u x b a (stateOf m) Ordered (λ j. address-length (getD (r .highs) j 0) (getD (r .lows) j 0)) keep-ordered w (f .ordered) i);
+            (to-keeps (graphOf r) limit u x b a c (stateOf m) Ordered (λ j. address-length (getD (r .highs) j 0) (getD (r .lows) j 0)) keep-ordered w (f .ordered) i);
         some = f .some;
         bounded = f .bounded;
         limited = f .limited;
       }
 
-      pub going-step : (m″ : Memory) (j : ℕ) → leb (getD (r .lengths) i 0) b ≡ true → Done m′ m″ (stepOf r limit i b a m′) → length (m″ .out) ≡ length (m′ .out)
+      pub going-step : (m″ : Memory) (j : ℕ) → leb (getD (r .lengths) i 0) b ≡ true → Done m′ m″ (stepOf r limit i b a c m′) → length (m″ .out) ≡ length (m′ .out) → length (m″ .lives) ≡ length (m′ .lives)
           → j ≡ getD (m″ .next) i 0 → Going m″ j
-      going-step m″ j l d lo ej =
+      going-step m″ j l d lo ll ej =
           going m″ j (d .next ∙ v .next) (d .prev ∙ v .prev)
-          (d .state ∙ ap (λ (w : List ℕ). stepped (graphOf r) limit w i b a (stateOf m′)) same-unused ∙ ap (stepped (graphOf r) limit u i b a) at-i
-          ∙ sym (to-step (graphOf r) limit u x b a (stateOf m) i (listed-fits r u x b i (v .listed li) l)))
-          (d .places) (subst (λ (w : ℕ). getD (m″ .figures) 0 0 * 16 ≤ w) (v .out) (d .room)) (lo ∙ v .out) ej
+          (d .state ∙ ap (λ (w : List ℕ). stepped (graphOf r) limit w i b a c (stateOf m′)) same-unused ∙ ap (stepped (graphOf r) limit u i b a c) at-i
+          ∙ sym (to-step (graphOf r) limit u x b a c (stateOf m) i (listed-fits r u x b i (v .listed li) l)))
+          (d .places) (subst (λ (w : ℕ). getD (m″ .figures) 0 0 * 16 ≤ w) (v .out) (d .room)) (lo ∙ v .out) (ll ∙ v .lives) ej
 
       -- past the limit the rest changes nothing
-      pub going-over : limit < m′ .work → Done m m′ (searchOf r limit x b a m)
+      pub going-over : limit < m′ .work → Done m m′ (searchOf r limit x b a c m)
       going-over h = record {
         next = v .next;
         prev = v .prev;
-        state = at-i ∙ sym (to-end (graphOf r) limit u x b a (stateOf m) i (omega arith) (subst (λ (w : State). limit < w .0) at-i h));
+        state = at-i ∙ sym (to-end (graphOf r) limit u x b a c (stateOf m) i (omega arith) (subst (λ (w : State). limit < w .0) at-i h));
         places = v .places;
         room = v .room;
       }
 
-    pub going-end : (m′ : Memory) (i : ℕ) → Going m′ i → n ≤ i → Done m m′ (searchOf r limit x b a m)
+    pub going-end : (m′ : Memory) (i : ℕ) → Going m′ i → n ≤ i → Done m m′ (searchOf r limit x b a c m)
     going-end m′ i v l =
         let e : min i n ≡ n = omega arith in
         record {
           next = v .next;
           prev = v .prev;
-          state = v .state ∙ ap to e ∙ to-all (graphOf r) limit u x b a (stateOf m);
+          state = v .state ∙ ap to e ∙ to-all (graphOf r) limit u x b a c (stateOf m);
           places = v .places;
           room = v .room;
         }

@@ -7,6 +7,7 @@ use lib.Dec.{eqb}
 use lib.ListN.{length, getD}
 use Rattle.octets.specs.Octets.{blank}
 use Rattle.chains.specs.Lists.{pick}
+use Rattle.chains.specs.Graph.{maxTtl}
 use Rattle.rows.specs.Rows.{maxFigures, kept, Ordered}
 use Rattle.search.specs.Search.{Records, graphOf, State, searched, stepped}
 
@@ -25,11 +26,12 @@ pub record Owned (owners : List ℕ) : Type 0 where
   pub few : length owners ≤ maxRecords
   pub owner : (j : ℕ) → j < length owners → getD owners j 0 < maxNames
 
--- what a search asks of the records: targets by number too, and prefix lengths up to 128
+-- what a search asks of the records: targets by number too, prefix lengths up to 128, and TTLs up to the greatest
 pub record Numbered (r : Records) : Type 0 where
   pub owned : Owned (r .owners)
   pub target : (j : ℕ) → j < length (r .owners) → 0 < getD (r .lengths) j 0 → getD (r .targets) j 0 < maxNames
   pub short : (j : ℕ) → j < length (r .owners) → getD (r .lengths) j 0 ≤ 128
+  pub lived : (j : ℕ) → j < length (r .owners) → getD (r .ttls) j 0 ≤ maxTtl
 
 -- the record m is unused and one of x
 abbrev pub lists : List ℕ → List ℕ → ℕ → ℕ → Bool
@@ -82,24 +84,25 @@ pub record Memory : Type 0 where
   pub next : List ℕ
   pub prev : List ℕ
   pub out : List ℕ
+  pub lives : List ℕ
   pub figures : List ℕ
   pub work : ℕ
 
-abbrev pub memory : List ℕ → List ℕ → List ℕ → List ℕ → ℕ → Memory
-memory next prev out figures work = record { next = next; prev = prev; out = out; figures = figures; work = work }
+abbrev pub memory : List ℕ → List ℕ → List ℕ → List ℕ → List ℕ → ℕ → Memory
+memory next prev out lives figures work = record { next = next; prev = prev; out = out; lives = lives; figures = figures; work = work }
 
 abbrev pub stateOf : Memory → State
-stateOf m = (m .work, kept (m .out) (m .figures))
+stateOf m = (m .work, kept (m .out) (m .lives) (m .figures))
 
 abbrev pub unusedOf : Records → Memory → List ℕ
 unusedOf r m = marksOf (length (r .owners)) (m .next) (m .prev)
 
 -- the state after the search, and after the step
-abbrev pub searchOf : Records → ℕ → ℕ → ℕ → List ℕ → Memory → State
-searchOf r limit x b a m = searched (graphOf r) limit (unusedOf r m) x b a (stateOf m)
+abbrev pub searchOf : Records → ℕ → ℕ → ℕ → List ℕ → ℕ → Memory → State
+searchOf r limit x b a c m = searched (graphOf r) limit (unusedOf r m) x b a c (stateOf m)
 
-abbrev pub stepOf : Records → ℕ → ℕ → ℕ → List ℕ → Memory → State
-stepOf r limit i b a m = stepped (graphOf r) limit (unusedOf r m) i b a (stateOf m)
+abbrev pub stepOf : Records → ℕ → ℕ → ℕ → List ℕ → ℕ → Memory → State
+stepOf r limit i b a c m = stepped (graphOf r) limit (unusedOf r m) i b a c (stateOf m)
 
 -- what a search works on
 pub record Fit (r : Records) (m : Memory) (bound limit : ℕ) : Type 0 where
@@ -108,7 +111,8 @@ pub record Fit (r : Records) (m : Memory) (bound limit : ℕ) : Type 0 where
   pub linked : Linked (r .owners) (unusedOf r m) (m .next) (m .prev)
   pub places : length (m .figures) ≡ maxFigures
   pub room : getD (m .figures) 0 0 * 16 ≤ length (m .out)
-  pub ordered : Ordered (kept (m .out) (m .figures))
+  pub level : length (m .lives) * 16 ≡ length (m .out)
+  pub ordered : Ordered (kept (m .out) (m .lives) (m .figures))
   pub some : 0 < bound
   pub bounded : bound ≤ 128
   pub limited : limit < 2 ^ 32

@@ -1,13 +1,14 @@
 // What only our own layers call: the search for the addresses of a numbered name.
 ghost use mathlib.Core.Path.{_≡_};
-ghost use Prim.Native.Nat.{_+_, _*_, _/_, _%_, _^_, _≤_, _<_};
+ghost use Prim.Native.Nat.{_+_, _*_, _/_, _%_, _^_, _≤_, _<_, min};
 ghost use lib.ListN.{length, getD};
 ghost use Rattle.octets.specs.Octets.{blank};
+ghost use Rattle.octets.specs.Answers.{refusal};
 ghost use Rattle.address.specs.Address.{joinOf};
 ghost use Rattle.rows.specs.Halves.{addressOf};
 ghost use Rattle.search.specs.Search.{records, graphOf};
 ghost use Rattle.search.specs.Links.{maxRecords, maxNames, Numbered, memory, unusedOf, searchOf, stepOf, Fit, Done};
-ghost use Rattle.search.specs.Answers.{foundOf, writtenOf};
+ghost use Rattle.search.specs.Answers.{foundOf, writtenOf, lastingOf};
 use crate::links;
 use rows::inside::FIGURES;
 
@@ -17,6 +18,9 @@ pub const RECORDS: usize = 1024;
 pub const NAMES: usize = 2304;
 
 pub const NODES: usize = RECORDS + NAMES;
+
+// The greatest TTL: a chain of no records has it.
+const MAX_TTL: u32 = 2147483647;
 
 // An address by its first and its last 64 bits.
 struct Halves {
@@ -58,6 +62,16 @@ fn joined(
     }
 }
 
+// The lesser of two TTLs.
+fn lesser(a: u32, b: u32) -> u32
+    ensures { λ r. ⌜ r ≡ min a b ⌝ }
+{
+    if b < a {
+        return b;
+    }
+    a
+}
+
 // Into the record i, which is unused: it is out of its list while the search goes on from it.
 fn step(
     owners: &[u16],
@@ -65,28 +79,32 @@ fn step(
     lengths: &[u8; RECORDS],
     highs: &[u64; RECORDS],
     lows: &[u64; RECORDS],
+    ttls: &[u32; RECORDS],
     i: usize,
     bound: u8,
     high: u64,
     low: u64,
+    ttl: u32,
     next: &mut [u16; NODES],
     prev: &mut [u16; NODES],
     limit: u64,
     out: &mut [u8],
+    lives: &mut [u32],
     figures: &mut [usize; FIGURES],
     work: u64,
 ) -> u64
-    requires { ⌜ Fit (records (now owners) (now targets) (now lengths) (now highs) (now lows)) (memory (now next) (now prev) (now out) (now figures) work) bound limit ⌝ }
-    requires { ⌜ (i < length (now owners)) × (getD (unusedOf (records (now owners) (now targets) (now lengths) (now highs) (now lows)) (memory (now next) (now prev) (now out) (now figures) work)) i 0 ≡ 0) × (getD (now lengths) i 0 ≤ bound) × (work ≤ limit) ⌝ }
-    ensures { λ r. ⌜ Done (memory (now (next .entry)) (now (prev .entry)) (now (out .entry)) (now (figures .entry)) work) (memory (now (next .exit)) (now (prev .exit)) (now (out .exit)) (now (figures .exit)) r) (stepOf (records (now (owners .entry)) (now (targets .entry)) (now (lengths .entry)) (now (highs .entry)) (now (lows .entry))) limit i bound (addressOf high low) (memory (now (next .entry)) (now (prev .entry)) (now (out .entry)) (now (figures .entry)) work)) ⌝ }
+    requires { ⌜ Fit (records (now owners) (now targets) (now lengths) (now highs) (now lows) (now ttls)) (memory (now next) (now prev) (now out) (now lives) (now figures) work) bound limit ⌝ }
+    requires { ⌜ (i < length (now owners)) × (getD (unusedOf (records (now owners) (now targets) (now lengths) (now highs) (now lows) (now ttls)) (memory (now next) (now prev) (now out) (now lives) (now figures) work)) i 0 ≡ 0) × (getD (now lengths) i 0 ≤ bound) × (work ≤ limit) ⌝ }
+    ensures { λ r. ⌜ Done (memory (now (next .entry)) (now (prev .entry)) (now (out .entry)) (now (lives .entry)) (now (figures .entry)) work) (memory (now (next .exit)) (now (prev .exit)) (now (out .exit)) (now (lives .exit)) (now (figures .exit)) r) (stepOf (records (now (owners .entry)) (now (targets .entry)) (now (lengths .entry)) (now (highs .entry)) (now (lows .entry)) (now (ttls .entry))) limit i bound (addressOf high low) ttl (memory (now (next .entry)) (now (prev .entry)) (now (out .entry)) (now (lives .entry)) (now (figures .entry)) work)) ⌝ }
 {
     let length = lengths[i];
     let a = joined(highs, lows, i, high, low, bound);
     let h = a.high;
     let l = a.low;
+    let t = lesser(ttl, ttls[i]);
     let w = work + 1;
     if length == 0 {
-        rows::inside::keep(out, figures, h, l);
+        rows::inside::keep(out, lives, figures, h, l, t);
         return w;
     }
     let x = octets::numbers::wide(targets[i]);
@@ -103,14 +121,17 @@ fn step(
             lengths,
             highs,
             lows,
+            ttls,
             x,
             length,
             h,
             l,
+            t,
             next,
             prev,
             limit,
             out,
+            lives,
             figures,
             w,
         );
@@ -126,20 +147,23 @@ fn search(
     lengths: &[u8; RECORDS],
     highs: &[u64; RECORDS],
     lows: &[u64; RECORDS],
+    ttls: &[u32; RECORDS],
     x: usize,
     bound: u8,
     high: u64,
     low: u64,
+    ttl: u32,
     next: &mut [u16; NODES],
     prev: &mut [u16; NODES],
     limit: u64,
     out: &mut [u8],
+    lives: &mut [u32],
     figures: &mut [usize; FIGURES],
     work: u64,
 ) -> u64
-    requires { ⌜ Fit (records (now owners) (now targets) (now lengths) (now highs) (now lows)) (memory (now next) (now prev) (now out) (now figures) work) bound limit ⌝ }
+    requires { ⌜ Fit (records (now owners) (now targets) (now lengths) (now highs) (now lows) (now ttls)) (memory (now next) (now prev) (now out) (now lives) (now figures) work) bound limit ⌝ }
     requires { ⌜ x < maxNames ⌝ }
-    ensures { λ r. ⌜ Done (memory (now (next .entry)) (now (prev .entry)) (now (out .entry)) (now (figures .entry)) work) (memory (now (next .exit)) (now (prev .exit)) (now (out .exit)) (now (figures .exit)) r) (searchOf (records (now (owners .entry)) (now (targets .entry)) (now (lengths .entry)) (now (highs .entry)) (now (lows .entry))) limit x bound (addressOf high low) (memory (now (next .entry)) (now (prev .entry)) (now (out .entry)) (now (figures .entry)) work)) ⌝ }
+    ensures { λ r. ⌜ Done (memory (now (next .entry)) (now (prev .entry)) (now (out .entry)) (now (lives .entry)) (now (figures .entry)) work) (memory (now (next .exit)) (now (prev .exit)) (now (out .exit)) (now (lives .exit)) (now (figures .exit)) r) (searchOf (records (now (owners .entry)) (now (targets .entry)) (now (lengths .entry)) (now (highs .entry)) (now (lows .entry)) (now (ttls .entry))) limit x bound (addressOf high low) ttl (memory (now (next .entry)) (now (prev .entry)) (now (out .entry)) (now (lives .entry)) (now (figures .entry)) work)) ⌝ }
 {
     let mut s = work;
     let head = owners.len() + x;
@@ -155,14 +179,17 @@ fn search(
                 lengths,
                 highs,
                 lows,
+                ttls,
                 i,
                 bound,
                 high,
                 low,
+                ttl,
                 next,
                 prev,
                 limit,
                 out,
+                lives,
                 figures,
                 s,
             );
@@ -172,21 +199,33 @@ fn search(
     s
 }
 
-// The addresses of the name x, or refusal 6 or 7, once the records and the output are in order; the output comes as zeros.
+// A refusal by its number, with zeros in both lists.
+fn refuse(number: u8, out: &mut [u8], lives: &mut [u32]) -> octets::Answer
+    ensures { λ r. ⌜ (r ≡ refusal number) × (now (out .exit) ≡ blank (length (now (out .entry)))) × (now (lives .exit) ≡ blank (length (now (lives .entry)))) ⌝ }
+{
+    octets::clear(out);
+    octets::numbers::clear(lives);
+    octets::refused(number)
+}
+
+// The addresses of the name x and their lifetimes, or refusal 6 or 7, once the records and both lists are in order; they come as zeros.
 pub fn find(
     owners: &[u16],
     targets: &[u16; RECORDS],
     lengths: &[u8; RECORDS],
     highs: &[u64; RECORDS],
     lows: &[u64; RECORDS],
+    ttls: &[u32; RECORDS],
     x: usize,
     limit: u32,
     out: &mut [u8],
+    lives: &mut [u32],
 ) -> octets::Answer
-    requires { ⌜ Numbered (records (now owners) (now targets) (now lengths) (now highs) (now lows)) × (x < maxNames) ⌝ }
-    requires { ⌜ (length (now out) % 16 ≡ 0) × (now out ≡ blank (length (now out))) ⌝ }
-    ensures { λ r. ⌜ r ≡ foundOf (graphOf (records (now (owners .entry)) (now (targets .entry)) (now (lengths .entry)) (now (highs .entry)) (now (lows .entry)))) x limit (length (now (out .entry))) ⌝ }
-    ensures { λ _. ⌜ now (out .exit) ≡ writtenOf (graphOf (records (now (owners .entry)) (now (targets .entry)) (now (lengths .entry)) (now (highs .entry)) (now (lows .entry)))) x limit (length (now (out .entry))) ⌝ }
+    requires { ⌜ Numbered (records (now owners) (now targets) (now lengths) (now highs) (now lows) (now ttls)) × (x < maxNames) ⌝ }
+    requires { ⌜ (length (now out) % 16 ≡ 0) × (now out ≡ blank (length (now out))) × (length (now lives) * 16 ≡ length (now out)) × (now lives ≡ blank (length (now lives))) ⌝ }
+    ensures { λ r. ⌜ r ≡ foundOf (graphOf (records (now (owners .entry)) (now (targets .entry)) (now (lengths .entry)) (now (highs .entry)) (now (lows .entry)) (now (ttls .entry)))) x limit (length (now (out .entry))) ⌝ }
+    ensures { λ _. ⌜ now (out .exit) ≡ writtenOf (graphOf (records (now (owners .entry)) (now (targets .entry)) (now (lengths .entry)) (now (highs .entry)) (now (lows .entry)) (now (ttls .entry)))) x limit (length (now (out .entry))) ⌝ }
+    ensures { λ _. ⌜ now (lives .exit) ≡ lastingOf (graphOf (records (now (owners .entry)) (now (targets .entry)) (now (lengths .entry)) (now (highs .entry)) (now (lows .entry)) (now (ttls .entry)))) x limit (length (now (out .entry))) ⌝ }
 {
     let mut next = [0u16; NODES];
     let mut prev = [0u16; NODES];
@@ -199,26 +238,27 @@ pub fn find(
         lengths,
         highs,
         lows,
+        ttls,
         x,
         128,
         0,
         0,
+        MAX_TTL,
         &mut next,
         &mut prev,
         most,
         out,
+        lives,
         &mut figures,
         0,
     );
     let count = figures[0];
     let full = figures[1];
     if most < work {
-        octets::clear(out);
-        return octets::refused(6);
+        return refuse(6, out, lives);
     }
     if full == 1 {
-        octets::clear(out);
-        return octets::refused(7);
+        return refuse(7, out, lives);
     }
     let found = count as u32;
     let spent = work as u32;

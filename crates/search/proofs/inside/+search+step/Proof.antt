@@ -23,6 +23,7 @@ use Rattle.search.proofs.inside.step.Reads as step
 use Rattle.search.proofs.inside.step.Kinds as step-kinds
 use Rattle.search.proofs.inside.+search+step.Lts-step as step-lts
 use Rattle.search.proofs.inside.joined.Reads as joined-reads
+use Rattle.search.proofs.inside.lesser.Reads as lesser-reads
 use Rattle.search.proofs.links.relink.Reads as relink-reads
 use Rattle.search.proofs.links.unlink.Reads as unlink-reads
 use Rattle.octets.proofs.numbers.wide.Reads as wide-reads
@@ -30,29 +31,29 @@ use Rattle.rows.proofs.inside.keep.Reads as keep-reads
 use Rattle.search.proofs.inside.+search+step.{statement}
 use Rattle.search.proofs.inside.+search+step.Tie.{close}
 
-abbrev μ-search : Measures 9 search-kinds.ps ℕ
-μ-search κs a = 2 * free (marksOf (length (a .0 .now)) (a .1 .1 .1 .1 .1 .1 .1 .1 .1 .0 .now) (a .1 .1 .1 .1 .1 .1 .1 .1 .1 .1 .0 .now)) + 1
+abbrev μ-search : Measures 11 search-kinds.ps ℕ
+μ-search κs a = 2 * free (marksOf (length (a .0 .now)) (a .1 .1 .1 .1 .1 .1 .1 .1 .1 .1 .1 .0 .now) (a .1 .1 .1 .1 .1 .1 .1 .1 .1 .1 .1 .1 .0 .now)) + 1
 
-abbrev μ-step : Measures 9 step-kinds.ps ℕ
-μ-step κs a = 2 * free (marksOf (length (a .0 .now)) (a .1 .1 .1 .1 .1 .1 .1 .1 .1 .0 .now) (a .1 .1 .1 .1 .1 .1 .1 .1 .1 .1 .0 .now))
+abbrev μ-step : Measures 11 step-kinds.ps ℕ
+μ-step κs a = 2 * free (marksOf (length (a .0 .now)) (a .1 .1 .1 .1 .1 .1 .1 .1 .1 .1 .1 .0 .now) (a .1 .1 .1 .1 .1 .1 .1 .1 .1 .1 .1 .1 .0 .now))
 
-abbrev search-at : ℕ → In 9 search-kinds.ps
-search-at t = and 9 search-kinds.ps (is 9 search-kinds.ps μ-search t) search′.Pre
+abbrev search-at : ℕ → In 11 search-kinds.ps
+search-at t = and 11 search-kinds.ps (is 11 search-kinds.ps μ-search t) search′.Pre
 
-abbrev search-below : ℕ → In 9 search-kinds.ps
-search-below t = and 9 search-kinds.ps (falls 9 search-kinds.ps _<_ μ-search t) search′.Pre
+abbrev search-below : ℕ → In 11 search-kinds.ps
+search-below t = and 11 search-kinds.ps (falls 11 search-kinds.ps _<_ μ-search t) search′.Pre
 
-abbrev step-at : ℕ → In 9 step-kinds.ps
-step-at t = and 9 step-kinds.ps (is 9 step-kinds.ps μ-step t) step.Pre
+abbrev step-at : ℕ → In 11 step-kinds.ps
+step-at t = and 11 step-kinds.ps (is 11 step-kinds.ps μ-step t) step.Pre
 
-abbrev step-below : ℕ → In 9 step-kinds.ps
-step-below t = and 9 step-kinds.ps (falls 9 step-kinds.ps _<_ μ-step t) step.Pre
+abbrev step-below : ℕ → In 11 step-kinds.ps
+step-below t = and 11 step-kinds.ps (falls 11 step-kinds.ps _<_ μ-step t) step.Pre
 
 abbrev search-Inv-loop : search-lts.InvT-loop
-search-Inv-loop owners targets lengths highs lows x bound high low next₀ prev₀ limit out₀ figures₀ work s₀ head i₀ next prev out figures s i = Going (records owners targets lengths highs lows) limit x bound (addressOf high low) (memory next₀ prev₀ out₀ figures₀ s₀) (memory next prev out figures s) i
+search-Inv-loop owners targets lengths highs lows ttls x bound high low ttl next₀ prev₀ limit out₀ lives₀ figures₀ work s₀ head i₀ next prev out lives figures s i = Going (records owners targets lengths highs lows ttls) limit x bound (addressOf high low) ttl (memory next₀ prev₀ out₀ lives₀ figures₀ s₀) (memory next prev out lives figures s) i
 
 abbrev search-μ-loop : search-lts.MeasureT-loop
-search-μ-loop owners targets lengths highs lows x bound high low next₀ prev₀ limit out₀ figures₀ work s₀ head i₀ next prev out figures s i = length owners - i
+search-μ-loop owners targets lengths highs lows ttls x bound high low ttl next₀ prev₀ limit out₀ lives₀ figures₀ work s₀ head i₀ next prev out lives figures s i = length owners - i
 
 search-add-head : (t : ℕ) → search-lts.Need-add-head (
   wide-reads.Asked,
@@ -60,7 +61,7 @@ search-add-head : (t : ℕ) → search-lts.Need-add-head (
   step-below t,
   step.Post,
 ) (search-at t) search′.Post search-Inv-loop search-μ-loop
-search-add-head t c = omega (arith, c .before .before .pre .1 .0 .numbered .owned .few, c .before .before .pre .1 .1)
+search-add-head t c = omega (arith, c .before .before .before .pre .1 .0 .numbered .owned .few, c .before .before .before .pre .1 .1)
 
 search-mul-wide : (t : ℕ) → search-lts.Need-mul-wide (
   wide-reads.Asked,
@@ -68,7 +69,7 @@ search-mul-wide : (t : ℕ) → search-lts.Need-mul-wide (
   step-below t,
   step.Post,
 ) (search-at t) search′.Post search-Inv-loop search-μ-loop
-search-mul-wide t c = omega (arith, c .before .before .pre .1 .0 .numbered .owned .few, c .before .before .pre .1 .1)
+search-mul-wide t c = omega (arith, c .before .before .before .pre .1 .0 .numbered .owned .few, c .before .before .before .pre .1 .1)
 
 search-element-copy-out-wide : (t : ℕ) → search-lts.Need-element-copy-out-wide (
   wide-reads.Asked,
@@ -76,7 +77,7 @@ search-element-copy-out-wide : (t : ℕ) → search-lts.Need-element-copy-out-wi
   step-below t,
   step.Post,
 ) (search-at t) search′.Post search-Inv-loop search-μ-loop
-search-element-copy-out-wide t c = omega (arith, c .before .before .pre .1 .0 .numbered .owned .few, c .before .before .pre .1 .1)
+search-element-copy-out-wide t c = omega (arith, c .before .before .before .pre .1 .0 .numbered .owned .few, c .before .before .before .pre .1 .1)
 
 search-wide-requires : (t : ℕ) → search-lts.Need-wide-requires (
   wide-reads.Asked,
@@ -93,11 +94,11 @@ search-loop-holds : (t : ℕ) → search-lts.Need-loop-holds (
   step.Post,
 ) (search-at t) search′.Post search-Inv-loop search-μ-loop
 search-loop-holds t c =
-    let a = c .before .before .before .before .args in
-    let table = records (a .owners .now) (a .targets .now) (a .lengths .now) (a .highs .now) (a .lows .now) in
-    let start = memory (a .next .now) (a .prev .now) (a .out .now) (a .figures .now) (a .work) in
-    let f = c .before .before .before .before .pre .1 .0 in
-    going-start table (a .limit) (a .x) (a .bound) (addressOf (a .high) (a .low)) start (f .linked) _ (f .places) (omega (arith, f .nodes, f .numbered .owned .few, c .before .before .before .before .pre .1 .1)) (f .room) (c .wide .ensures)
+    let a = c .before .before .before .before .before .args in
+    let table = records (a .owners .now) (a .targets .now) (a .lengths .now) (a .highs .now) (a .lows .now) (a .ttls .now) in
+    let start = memory (a .next .now) (a .prev .now) (a .out .now) (a .lives .now) (a .figures .now) (a .work) in
+    let f = c .before .before .before .before .before .pre .1 .0 in
+    going-start table (a .limit) (a .x) (a .bound) (addressOf (a .high) (a .low)) (a .ttl) start (f .linked) _ (f .places) (omega (arith, f .nodes, f .numbered .owned .few, c .before .before .before .before .before .pre .1 .1)) (f .room) (c .wide .ensures)
 
 search-same-length : (t : ℕ) → search-lts.Need-same-length (
   wide-reads.Asked,
@@ -107,6 +108,14 @@ search-same-length : (t : ℕ) → search-lts.Need-same-length (
 ) (search-at t) search′.Post search-Inv-loop search-μ-loop
 search-same-length t c = c .before .before .loop .inv .out
 
+search-same-length-2 : (t : ℕ) → search-lts.Need-same-length-2 (
+  wide-reads.Asked,
+  wide-reads.Learnt,
+  step-below t,
+  step.Post,
+) (search-at t) search′.Post search-Inv-loop search-μ-loop
+search-same-length-2 t c = c .before .before .loop .inv .lives
+
 search-returns : (t : ℕ) → search-lts.Need-returns (
   wide-reads.Asked,
   wide-reads.Learnt,
@@ -114,13 +123,13 @@ search-returns : (t : ℕ) → search-lts.Need-returns (
   step.Post,
 ) (search-at t) search′.Post search-Inv-loop search-μ-loop
 search-returns t c =
-    let a = c .before .before .before .before .before .before .before .args in
-    let table = records (a .owners .now) (a .targets .now) (a .lengths .now) (a .highs .now) (a .lows .now) in
-    let start = memory (a .next .now) (a .prev .now) (a .out .now) (a .figures .now) (a .work) in
-    let f = c .before .before .before .before .before .before .before .pre .1 .0 in
+    let a = c .before .before .before .before .before .before .before .before .args in
+    let table = records (a .owners .now) (a .targets .now) (a .lengths .now) (a .highs .now) (a .lows .now) (a .ttls .now) in
+    let start = memory (a .next .now) (a .prev .now) (a .out .now) (a .lives .now) (a .figures .now) (a .work) in
+    let f = c .before .before .before .before .before .before .before .before .pre .1 .0 in
     let l = c .before .before .loop in
-    let here = memory (l .next) (l .prev) (l .out) (l .figures) (l .s) in
-    going-over table (a .limit) (a .x) (a .bound) (addressOf (a .high) (a .low)) start (f .linked) here (l .i) (l .inv) (c .before .loop-test .taken) (c .if1 .taken)
+    let here = memory (l .next) (l .prev) (l .out) (l .lives) (l .figures) (l .s) in
+    going-over table (a .limit) (a .x) (a .bound) (addressOf (a .high) (a .low)) (a .ttl) start (f .linked) here (l .i) (l .inv) (c .before .loop-test .taken) (c .if1 .taken)
 
 search-element-copy-out-if2 : (t : ℕ) → search-lts.Need-element-copy-out-if2 (
   wide-reads.Asked,
@@ -128,7 +137,7 @@ search-element-copy-out-if2 : (t : ℕ) → search-lts.Need-element-copy-out-if2
   step-below t,
   step.Post,
 ) (search-at t) search′.Post search-Inv-loop search-μ-loop
-search-element-copy-out-if2 t c = omega (arith, c .before .before .before .before .before .before .before .pre .1 .0 .numbered .owned .few, c .before .loop-test .taken)
+search-element-copy-out-if2 t c = omega (arith, c .before .before .before .before .before .before .before .before .pre .1 .0 .numbered .owned .few, c .before .loop-test .taken)
 
 search-step-requires : (t : ℕ) → search-lts.Need-step-requires (
   wide-reads.Asked,
@@ -137,22 +146,22 @@ search-step-requires : (t : ℕ) → search-lts.Need-step-requires (
   step.Post,
 ) (search-at t) search′.Post search-Inv-loop search-μ-loop
 search-step-requires t c κs =
-    let a = c .before .before .before .before .before .before .before .before .before .before .before .before .before .args in
-    let table = records (a .owners .now) (a .targets .now) (a .lengths .now) (a .highs .now) (a .lows .now) in
-    let start = memory (a .next .now) (a .prev .now) (a .out .now) (a .figures .now) (a .work) in
-    let f = c .before .before .before .before .before .before .before .before .before .before .before .before .before .pre .1 .0 in
-    let l = c .before .before .before .before .before .before .before .before .loop in
-    let here = memory (l .next) (l .prev) (l .out) (l .figures) (l .s) in
-    let li = c .before .before .before .before .before .before .before .loop-test .taken in
-    let e = same-unused table (a .limit) (a .x) (a .bound) (addressOf (a .high) (a .low)) start (f .linked) here (l .i) (l .inv) li in (
-      omega (arith, c .before .before .before .before .before .before .before .before .before .before .before .before .before .pre .0, ap free e),
+    let a = c .before .before .before .before .before .before .before .before .before .before .before .before .before .before .before .args in
+    let table = records (a .owners .now) (a .targets .now) (a .lengths .now) (a .highs .now) (a .lows .now) (a .ttls .now) in
+    let start = memory (a .next .now) (a .prev .now) (a .out .now) (a .lives .now) (a .figures .now) (a .work) in
+    let f = c .before .before .before .before .before .before .before .before .before .before .before .before .before .before .before .pre .1 .0 in
+    let l = c .before .before .before .before .before .before .before .before .before .loop in
+    let here = memory (l .next) (l .prev) (l .out) (l .lives) (l .figures) (l .s) in
+    let li = c .before .before .before .before .before .before .before .before .loop-test .taken in
+    let e = same-unused table (a .limit) (a .x) (a .bound) (addressOf (a .high) (a .low)) (a .ttl) start (f .linked) here (l .i) (l .inv) li in (
+      omega (arith, c .before .before .before .before .before .before .before .before .before .before .before .before .before .before .before .pre .0, ap free e),
       (
-        going-fit table (a .limit) (a .x) (a .bound) (addressOf (a .high) (a .low)) start (f .linked) here (l .i) (l .inv) li f (address-length (a .high) (a .low)),
+        going-fit table (a .limit) (a .x) (a .bound) (addressOf (a .high) (a .low)) (a .ttl) start (f .linked) here (l .i) (l .inv) li f (address-length (a .high) (a .low)),
         (
           li,
-          ap (λ (u : List ℕ). getD u (l .i) 0) e ∙ unmarked table (a .limit) (a .x) (a .bound) (addressOf (a .high) (a .low)) start (f .linked) here (l .i) (l .inv) li,
-          c .before .before .before .before .if2 .taken,
-          c .before .before .before .before .before .before .if1 .left,
+          ap (λ (u : List ℕ). getD u (l .i) 0) e ∙ unmarked table (a .limit) (a .x) (a .bound) (addressOf (a .high) (a .low)) (a .ttl) start (f .linked) here (l .i) (l .inv) li,
+          c .before .before .before .before .before .if2 .taken,
+          c .before .before .before .before .before .before .before .if1 .left,
         ),
       ),
     )
@@ -163,7 +172,7 @@ search-mul-wide-2 : (t : ℕ) → search-lts.Need-mul-wide-2 (
   step-below t,
   step.Post,
 ) (search-at t) search′.Post search-Inv-loop search-μ-loop
-search-mul-wide-2 t c = omega (arith, c .before .before .before .before .before .before .before .before .before .pre .1 .0 .numbered .owned .few, c .before .before .before .loop-test .taken)
+search-mul-wide-2 t c = omega (arith, c .before .before .before .before .before .before .before .before .before .before .pre .1 .0 .numbered .owned .few, c .before .before .before .loop-test .taken)
 
 search-element-copy-out-wide-2 : (t : ℕ) → search-lts.Need-element-copy-out-wide-2 (
   wide-reads.Asked,
@@ -171,7 +180,7 @@ search-element-copy-out-wide-2 : (t : ℕ) → search-lts.Need-element-copy-out-
   step-below t,
   step.Post,
 ) (search-at t) search′.Post search-Inv-loop search-μ-loop
-search-element-copy-out-wide-2 t c = omega (arith, c .before .before .before .before .before .before .before .before .before .pre .1 .0 .numbered .owned .few, c .before .before .before .loop-test .taken)
+search-element-copy-out-wide-2 t c = omega (arith, c .before .before .before .before .before .before .before .before .before .before .pre .1 .0 .numbered .owned .few, c .before .before .before .loop-test .taken)
 
 search-wide-requires-2 : (t : ℕ) → search-lts.Need-wide-requires-2 (
   wide-reads.Asked,
@@ -188,15 +197,15 @@ search-loop-less : (t : ℕ) → search-lts.Need-loop-less (
   step.Post,
 ) (search-at t) search′.Post search-Inv-loop search-μ-loop
 search-loop-less t c =
-    let a = c .before .before .before .before .before .before .before .before .before .before .before .args in
-    let table = records (a .owners .now) (a .targets .now) (a .lengths .now) (a .highs .now) (a .lows .now) in
-    let start = memory (a .next .now) (a .prev .now) (a .out .now) (a .figures .now) (a .work) in
-    let f = c .before .before .before .before .before .before .before .before .before .before .before .pre .1 .0 in
+    let a = c .before .before .before .before .before .before .before .before .before .before .before .before .args in
+    let table = records (a .owners .now) (a .targets .now) (a .lengths .now) (a .highs .now) (a .lows .now) (a .ttls .now) in
+    let start = memory (a .next .now) (a .prev .now) (a .out .now) (a .lives .now) (a .figures .now) (a .work) in
+    let f = c .before .before .before .before .before .before .before .before .before .before .before .before .pre .1 .0 in
     let l = c .before .before .before .before .before .before .loop in
-    let here = memory (l .next) (l .prev) (l .out) (l .figures) (l .s) in
+    let here = memory (l .next) (l .prev) (l .out) (l .lives) (l .figures) (l .s) in
     let li = c .before .before .before .before .before .loop-test .taken in
-    let e : c .before .before .if2 .next ≡ l .next = ⊎-elim (λ w. w .8 ∙ w .5 .ensures .next) (λ w. w .1) (c .before .before .if2 .came) in
-    let m = further table (a .limit) (a .x) (a .bound) (addressOf (a .high) (a .low)) start (f .linked) here (l .i) (l .inv) li in
+    let e : c .before .before .if2 .next ≡ l .next = ⊎-elim (λ w. w .11 ∙ w .6 .ensures .next) (λ w. w .1) (c .before .before .if2 .came) in
+    let m = further table (a .limit) (a .x) (a .bound) (addressOf (a .high) (a .low)) (a .ttl) start (f .linked) here (l .i) (l .inv) li in
     let r : c .wide2 .result ≡ getD (l .next) (l .i) 0 = c .wide2 .ensures ∙ ap (λ (v : List ℕ). getD v (l .i) 0) e in
     omega (arith, m, r, li)
 
@@ -207,34 +216,42 @@ search-loop-again : (t : ℕ) → search-lts.Need-loop-again (
   step.Post,
 ) (search-at t) search′.Post search-Inv-loop search-μ-loop
 search-loop-again t c =
-    let a = c .before .before .before .before .before .before .before .before .before .before .before .args in
-    let table = records (a .owners .now) (a .targets .now) (a .lengths .now) (a .highs .now) (a .lows .now) in
-    let start = memory (a .next .now) (a .prev .now) (a .out .now) (a .figures .now) (a .work) in
-    let f = c .before .before .before .before .before .before .before .before .before .before .before .pre .1 .0 in
+    let a = c .before .before .before .before .before .before .before .before .before .before .before .before .args in
+    let table = records (a .owners .now) (a .targets .now) (a .lengths .now) (a .highs .now) (a .lows .now) (a .ttls .now) in
+    let start = memory (a .next .now) (a .prev .now) (a .out .now) (a .lives .now) (a .figures .now) (a .work) in
+    let f = c .before .before .before .before .before .before .before .before .before .before .before .before .pre .1 .0 in
     let l = c .before .before .before .before .before .before .loop in
-    let here = memory (l .next) (l .prev) (l .out) (l .figures) (l .s) in
+    let here = memory (l .next) (l .prev) (l .out) (l .lives) (l .figures) (l .s) in
     let li = c .before .before .before .before .before .loop-test .taken in
     let j = c .before .before .if2 in
-    let there = memory (j .next) (j .prev) (j .out) (j .figures) (j .s) in
+    let there = memory (j .next) (j .prev) (j .out) (j .lives) (j .figures) (j .s) in
     ⊎-elim
     (λ w.
-    going-step table (a .limit) (a .x) (a .bound) (addressOf (a .high) (a .low)) start (f .linked) here (l .i) (l .inv) li
+    going-step table (a .limit) (a .x) (a .bound) (addressOf (a .high) (a .low)) (a .ttl) start (f .linked) here (l .i) (l .inv) li
     there (c .wide2 .result) (le-leb (getD (a .lengths .now) (l .i) 0) (a .bound) (w .0 .taken))
-    (done-as here _ there (stepOf table (a .limit) (l .i) (a .bound) (addressOf (a .high) (a .low)) here) (memory-eq (w .8) (w .9) (w .10) (w .11) (w .12)) (w .5 .ensures))
-    (ap length (w .10) ∙ w .5 .kept .1 .1 .1 .1 .1 .1 .1 .1 .1 .1 .1 .1 .0) (c .wide2 .ensures))
+    (done-as here _ there (stepOf table (a .limit) (l .i) (a .bound) (addressOf (a .high) (a .low)) (a .ttl) here) (memory-eq (w .11) (w .12) (w .13) (w .14) (w .15) (w .16)) (w .6 .ensures))
+    (ap length (w .13) ∙ w .6 .kept .1 .1 .1 .1 .1 .1 .1 .1 .1 .1 .1 .1 .1 .1 .0) (ap length (w .14) ∙ w .6 .kept .1 .1 .1 .1 .1 .1 .1 .1 .1 .1 .1 .1 .1 .1 .1 .0) (c .wide2 .ensures))
     (λ w.
-    subst (λ (m : Memory). Going table (a .limit) (a .x) (a .bound) (addressOf (a .high) (a .low)) start m (c .wide2 .result)) (sym (memory-eq (w .1) (w .2) (w .3) (w .4) (w .5)))
-    (going-skip table (a .limit) (a .x) (a .bound) (addressOf (a .high) (a .low)) start (f .linked) here (l .i) (l .inv) li (c .wide2 .result) (lt-leb (getD (a .lengths .now) (l .i) 0) (a .bound) (w .0 .left))
+    subst (λ (m : Memory). Going table (a .limit) (a .x) (a .bound) (addressOf (a .high) (a .low)) (a .ttl) start m (c .wide2 .result)) (sym (memory-eq (w .1) (w .2) (w .3) (w .4) (w .5) (w .6)))
+    (going-skip table (a .limit) (a .x) (a .bound) (addressOf (a .high) (a .low)) (a .ttl) start (f .linked) here (l .i) (l .inv) li (c .wide2 .result) (lt-leb (getD (a .lengths .now) (l .i) 0) (a .bound) (w .0 .left))
     (c .wide2 .ensures ∙ ap (λ (v : List ℕ). getD v (l .i) 0) (w .1))))
     (j .came)
 
-search-same-length-2 : (t : ℕ) → search-lts.Need-same-length-2 (
+search-same-length-3 : (t : ℕ) → search-lts.Need-same-length-3 (
   wide-reads.Asked,
   wide-reads.Learnt,
   step-below t,
   step.Post,
 ) (search-at t) search′.Post search-Inv-loop search-μ-loop
-search-same-length-2 t c = c .before .loop .inv .out
+search-same-length-3 t c = c .before .loop .inv .out
+
+search-same-length-4 : (t : ℕ) → search-lts.Need-same-length-4 (
+  wide-reads.Asked,
+  wide-reads.Learnt,
+  step-below t,
+  step.Post,
+) (search-at t) search′.Post search-Inv-loop search-μ-loop
+search-same-length-4 t c = c .before .loop .inv .lives
 
 search-returns-2 : (t : ℕ) → search-lts.Need-returns-2 (
   wide-reads.Asked,
@@ -243,17 +260,19 @@ search-returns-2 : (t : ℕ) → search-lts.Need-returns-2 (
   step.Post,
 ) (search-at t) search′.Post search-Inv-loop search-μ-loop
 search-returns-2 t c =
-    let a = c .before .before .before .before .before .before .args in
-    let table = records (a .owners .now) (a .targets .now) (a .lengths .now) (a .highs .now) (a .lows .now) in
-    let start = memory (a .next .now) (a .prev .now) (a .out .now) (a .figures .now) (a .work) in
-    let f = c .before .before .before .before .before .before .pre .1 .0 in
+    let a = c .before .before .before .before .before .before .before .args in
+    let table = records (a .owners .now) (a .targets .now) (a .lengths .now) (a .highs .now) (a .lows .now) (a .ttls .now) in
+    let start = memory (a .next .now) (a .prev .now) (a .out .now) (a .lives .now) (a .figures .now) (a .work) in
+    let f = c .before .before .before .before .before .before .before .pre .1 .0 in
     let l = c .before .loop in
-    let here = memory (l .next) (l .prev) (l .out) (l .figures) (l .s) in
-    going-end table (a .limit) (a .x) (a .bound) (addressOf (a .high) (a .low)) start (f .linked) here (l .i) (l .inv) (c .loop-test .left)
+    let here = memory (l .next) (l .prev) (l .out) (l .lives) (l .figures) (l .s) in
+    going-end table (a .limit) (a .x) (a .bound) (addressOf (a .high) (a .low)) (a .ttl) start (f .linked) here (l .i) (l .inv) (c .loop-test .left)
 
 step-element-copy-out-length : (t : ℕ) → step-lts.Need-element-copy-out-length (
   joined-reads.Asked,
   joined-reads.Learnt,
+  lesser-reads.Asked,
+  lesser-reads.Learnt,
   keep-reads.Asked,
   keep-reads.Learnt,
   wide-reads.Asked,
@@ -265,11 +284,13 @@ step-element-copy-out-length : (t : ℕ) → step-lts.Need-element-copy-out-leng
   relink-reads.Asked,
   relink-reads.Learnt,
 ) (step-at t) step.Post
-step-element-copy-out-length t c = omega (arith, c .before .before .pre .1 .0 .numbered .owned .few, c .before .before .pre .1 .1 .0)
+step-element-copy-out-length t c = omega (arith, c .before .before .before .pre .1 .0 .numbered .owned .few, c .before .before .before .pre .1 .1 .0)
 
 step-joined-requires : (t : ℕ) → step-lts.Need-joined-requires (
   joined-reads.Asked,
   joined-reads.Learnt,
+  lesser-reads.Asked,
+  lesser-reads.Learnt,
   keep-reads.Asked,
   keep-reads.Learnt,
   wide-reads.Asked,
@@ -282,13 +303,15 @@ step-joined-requires : (t : ℕ) → step-lts.Need-joined-requires (
   relink-reads.Learnt,
 ) (step-at t) step.Post
 step-joined-requires t c κs =
-    let a = c .before .before .before .args in
-    let p = c .before .before .before .pre .1 in
+    let a = c .before .before .before .before .args in
+    let p = c .before .before .before .before .pre .1 in
     (omega (arith, p .0 .numbered .owned .few, p .1 .0), (p .0 .some, p .0 .bounded))
 
-step-add-w : (t : ℕ) → step-lts.Need-add-w (
+step-mul-lesser : (t : ℕ) → step-lts.Need-mul-lesser (
   joined-reads.Asked,
   joined-reads.Learnt,
+  lesser-reads.Asked,
+  lesser-reads.Learnt,
   keep-reads.Asked,
   keep-reads.Learnt,
   wide-reads.Asked,
@@ -300,11 +323,67 @@ step-add-w : (t : ℕ) → step-lts.Need-add-w (
   relink-reads.Asked,
   relink-reads.Learnt,
 ) (step-at t) step.Post
-step-add-w t c = omega (arith, c .before .before .before .before .pre .1 .0 .limited, c .before .before .before .before .pre .1 .1 .3)
+step-mul-lesser t c = omega (arith, c .before .before .before .before .before .pre .1 .0 .numbered .owned .few, c .before .before .before .before .before .pre .1 .1 .0)
+
+step-element-copy-out-lesser : (t : ℕ) → step-lts.Need-element-copy-out-lesser (
+  joined-reads.Asked,
+  joined-reads.Learnt,
+  lesser-reads.Asked,
+  lesser-reads.Learnt,
+  keep-reads.Asked,
+  keep-reads.Learnt,
+  wide-reads.Asked,
+  wide-reads.Learnt,
+  unlink-reads.Asked,
+  unlink-reads.Learnt,
+  search-below t,
+  search′.Post,
+  relink-reads.Asked,
+  relink-reads.Learnt,
+) (step-at t) step.Post
+step-element-copy-out-lesser t c = omega (arith, c .before .before .before .before .before .pre .1 .0 .numbered .owned .few, c .before .before .before .before .before .pre .1 .1 .0)
+
+step-lesser-requires : (t : ℕ) → step-lts.Need-lesser-requires (
+  joined-reads.Asked,
+  joined-reads.Learnt,
+  lesser-reads.Asked,
+  lesser-reads.Learnt,
+  keep-reads.Asked,
+  keep-reads.Learnt,
+  wide-reads.Asked,
+  wide-reads.Learnt,
+  unlink-reads.Asked,
+  unlink-reads.Learnt,
+  search-below t,
+  search′.Post,
+  relink-reads.Asked,
+  relink-reads.Learnt,
+) (step-at t) step.Post
+step-lesser-requires t c κs = search needs
+
+step-add-w : (t : ℕ) → step-lts.Need-add-w (
+  joined-reads.Asked,
+  joined-reads.Learnt,
+  lesser-reads.Asked,
+  lesser-reads.Learnt,
+  keep-reads.Asked,
+  keep-reads.Learnt,
+  wide-reads.Asked,
+  wide-reads.Learnt,
+  unlink-reads.Asked,
+  unlink-reads.Learnt,
+  search-below t,
+  search′.Post,
+  relink-reads.Asked,
+  relink-reads.Learnt,
+) (step-at t) step.Post
+step-add-w t c = omega (arith, c .before .before .before .before .before .before .before .pre .1 .0 .limited, c .before .before .before .before .before .before .before .pre .1 .1 .3)
 
 step-keep-requires : (t : ℕ) → step-lts.Need-keep-requires (
   joined-reads.Asked,
   joined-reads.Learnt,
+  lesser-reads.Asked,
+  lesser-reads.Learnt,
   keep-reads.Asked,
   keep-reads.Learnt,
   wide-reads.Asked,
@@ -317,12 +396,14 @@ step-keep-requires : (t : ℕ) → step-lts.Need-keep-requires (
   relink-reads.Learnt,
 ) (step-at t) step.Post
 step-keep-requires t c κs =
-    let f = c .before .before .before .before .before .before .before .pre .1 .0 in
-    (f .places, f .room, f .ordered)
+    let f = c .before .before .before .before .before .before .before .before .before .before .before .pre .1 .0 in
+    (f .places, f .room, f .level, f .ordered)
 
 step-same-length : (t : ℕ) → step-lts.Need-same-length (
   joined-reads.Asked,
   joined-reads.Learnt,
+  lesser-reads.Asked,
+  lesser-reads.Learnt,
   keep-reads.Asked,
   keep-reads.Learnt,
   wide-reads.Asked,
@@ -336,9 +417,29 @@ step-same-length : (t : ℕ) → step-lts.Need-same-length (
 ) (step-at t) step.Post
 step-same-length t c = search needs
 
+step-same-length-2 : (t : ℕ) → step-lts.Need-same-length-2 (
+  joined-reads.Asked,
+  joined-reads.Learnt,
+  lesser-reads.Asked,
+  lesser-reads.Learnt,
+  keep-reads.Asked,
+  keep-reads.Learnt,
+  wide-reads.Asked,
+  wide-reads.Learnt,
+  unlink-reads.Asked,
+  unlink-reads.Learnt,
+  search-below t,
+  search′.Post,
+  relink-reads.Asked,
+  relink-reads.Learnt,
+) (step-at t) step.Post
+step-same-length-2 t c = search needs
+
 step-returns : (t : ℕ) → step-lts.Need-returns (
   joined-reads.Asked,
   joined-reads.Learnt,
+  lesser-reads.Asked,
+  lesser-reads.Learnt,
   keep-reads.Asked,
   keep-reads.Learnt,
   wide-reads.Asked,
@@ -351,16 +452,18 @@ step-returns : (t : ℕ) → step-lts.Need-returns (
   relink-reads.Learnt,
 ) (step-at t) step.Post
 step-returns t c =
-    let a = c .before .before .before .before .before .before .before .before .before .before .args in
-    let table = records (a .owners .now) (a .targets .now) (a .lengths .now) (a .highs .now) (a .lows .now) in
-    let start = memory (a .next .now) (a .prev .now) (a .out .now) (a .figures .now) (a .work) in
-    let p = c .before .before .before .before .before .before .before .before .before .before .pre .1 in
-    let k = c .before .before .keep .ensures in
-    done-finished table start (a .bound) (a .limit) (a .i) (p .0) (p .1 .0) (p .1 .1) (addressOf (a .high) (a .low)) _ _ _ (p .1 .3) (c .before .before .before .before .before .if1 .taken) (c .before .before .before .before .before .before .joined .ensures) (k .0) (k .1) (k .2)
+    let a = c .before .before .before .before .before .before .before .before .before .before .before .before .before .before .before .before .args in
+    let table = records (a .owners .now) (a .targets .now) (a .lengths .now) (a .highs .now) (a .lows .now) (a .ttls .now) in
+    let start = memory (a .next .now) (a .prev .now) (a .out .now) (a .lives .now) (a .figures .now) (a .work) in
+    let p = c .before .before .before .before .before .before .before .before .before .before .before .before .before .before .before .before .pre .1 in
+    let k = c .before .before .before .before .keep .ensures in
+    done-finished table start (a .bound) (a .limit) (a .i) (p .0) (p .1 .0) (p .1 .1) (addressOf (a .high) (a .low)) _ _ _ _ (a .ttl) _ (p .1 .3) (c .before .before .before .before .before .before .before .before .if1 .taken) (c .before .before .before .before .before .before .before .before .before .before .before .joined .ensures) (c .before .before .before .before .before .before .before .before .before .lesser .ensures) (k .0) (k .1) (k .2)
 
 step-mul-wide : (t : ℕ) → step-lts.Need-mul-wide (
   joined-reads.Asked,
   joined-reads.Learnt,
+  lesser-reads.Asked,
+  lesser-reads.Learnt,
   keep-reads.Asked,
   keep-reads.Learnt,
   wide-reads.Asked,
@@ -372,11 +475,13 @@ step-mul-wide : (t : ℕ) → step-lts.Need-mul-wide (
   relink-reads.Asked,
   relink-reads.Learnt,
 ) (step-at t) step.Post
-step-mul-wide t c = omega (arith, c .before .before .before .before .before .pre .1 .0 .numbered .owned .few, c .before .before .before .before .before .pre .1 .1 .0)
+step-mul-wide t c = omega (arith, c .before .before .before .before .before .before .before .before .pre .1 .0 .numbered .owned .few, c .before .before .before .before .before .before .before .before .pre .1 .1 .0)
 
 step-element-copy-out-wide : (t : ℕ) → step-lts.Need-element-copy-out-wide (
   joined-reads.Asked,
   joined-reads.Learnt,
+  lesser-reads.Asked,
+  lesser-reads.Learnt,
   keep-reads.Asked,
   keep-reads.Learnt,
   wide-reads.Asked,
@@ -388,11 +493,13 @@ step-element-copy-out-wide : (t : ℕ) → step-lts.Need-element-copy-out-wide (
   relink-reads.Asked,
   relink-reads.Learnt,
 ) (step-at t) step.Post
-step-element-copy-out-wide t c = omega (arith, c .before .before .before .before .before .pre .1 .0 .numbered .owned .few, c .before .before .before .before .before .pre .1 .1 .0)
+step-element-copy-out-wide t c = omega (arith, c .before .before .before .before .before .before .before .before .pre .1 .0 .numbered .owned .few, c .before .before .before .before .before .before .before .before .pre .1 .1 .0)
 
 step-wide-requires : (t : ℕ) → step-lts.Need-wide-requires (
   joined-reads.Asked,
   joined-reads.Learnt,
+  lesser-reads.Asked,
+  lesser-reads.Learnt,
   keep-reads.Asked,
   keep-reads.Learnt,
   wide-reads.Asked,
@@ -409,6 +516,8 @@ step-wide-requires t c κs = search needs
 step-mul-wide-2 : (t : ℕ) → step-lts.Need-mul-wide-2 (
   joined-reads.Asked,
   joined-reads.Learnt,
+  lesser-reads.Asked,
+  lesser-reads.Learnt,
   keep-reads.Asked,
   keep-reads.Learnt,
   wide-reads.Asked,
@@ -420,11 +529,13 @@ step-mul-wide-2 : (t : ℕ) → step-lts.Need-mul-wide-2 (
   relink-reads.Asked,
   relink-reads.Learnt,
 ) (step-at t) step.Post
-step-mul-wide-2 t c = omega (arith, c .before .before .before .before .before .before .before .pre .1 .0 .numbered .owned .few, c .before .before .before .before .before .before .before .pre .1 .1 .0)
+step-mul-wide-2 t c = omega (arith, c .before .before .before .before .before .before .before .before .before .before .pre .1 .0 .numbered .owned .few, c .before .before .before .before .before .before .before .before .before .before .pre .1 .1 .0)
 
 step-element-copy-out-wide-2 : (t : ℕ) → step-lts.Need-element-copy-out-wide-2 (
   joined-reads.Asked,
   joined-reads.Learnt,
+  lesser-reads.Asked,
+  lesser-reads.Learnt,
   keep-reads.Asked,
   keep-reads.Learnt,
   wide-reads.Asked,
@@ -436,11 +547,13 @@ step-element-copy-out-wide-2 : (t : ℕ) → step-lts.Need-element-copy-out-wide
   relink-reads.Asked,
   relink-reads.Learnt,
 ) (step-at t) step.Post
-step-element-copy-out-wide-2 t c = omega (arith, c .before .before .before .before .before .before .before .pre .1 .0 .numbered .owned .few, c .before .before .before .before .before .before .before .pre .1 .1 .0)
+step-element-copy-out-wide-2 t c = omega (arith, c .before .before .before .before .before .before .before .before .before .before .pre .1 .0 .numbered .owned .few, c .before .before .before .before .before .before .before .before .before .before .pre .1 .1 .0)
 
 step-wide-requires-2 : (t : ℕ) → step-lts.Need-wide-requires-2 (
   joined-reads.Asked,
   joined-reads.Learnt,
+  lesser-reads.Asked,
+  lesser-reads.Learnt,
   keep-reads.Asked,
   keep-reads.Learnt,
   wide-reads.Asked,
@@ -457,6 +570,8 @@ step-wide-requires-2 t c κs = search needs
 step-mul-wide-3 : (t : ℕ) → step-lts.Need-mul-wide-3 (
   joined-reads.Asked,
   joined-reads.Learnt,
+  lesser-reads.Asked,
+  lesser-reads.Learnt,
   keep-reads.Asked,
   keep-reads.Learnt,
   wide-reads.Asked,
@@ -468,11 +583,13 @@ step-mul-wide-3 : (t : ℕ) → step-lts.Need-mul-wide-3 (
   relink-reads.Asked,
   relink-reads.Learnt,
 ) (step-at t) step.Post
-step-mul-wide-3 t c = omega (arith, c .before .before .before .before .before .before .before .before .before .pre .1 .0 .numbered .owned .few, c .before .before .before .before .before .before .before .before .before .pre .1 .1 .0)
+step-mul-wide-3 t c = omega (arith, c .before .before .before .before .before .before .before .before .before .before .before .before .pre .1 .0 .numbered .owned .few, c .before .before .before .before .before .before .before .before .before .before .before .before .pre .1 .1 .0)
 
 step-element-copy-out-wide-3 : (t : ℕ) → step-lts.Need-element-copy-out-wide-3 (
   joined-reads.Asked,
   joined-reads.Learnt,
+  lesser-reads.Asked,
+  lesser-reads.Learnt,
   keep-reads.Asked,
   keep-reads.Learnt,
   wide-reads.Asked,
@@ -484,11 +601,13 @@ step-element-copy-out-wide-3 : (t : ℕ) → step-lts.Need-element-copy-out-wide
   relink-reads.Asked,
   relink-reads.Learnt,
 ) (step-at t) step.Post
-step-element-copy-out-wide-3 t c = omega (arith, c .before .before .before .before .before .before .before .before .before .pre .1 .0 .numbered .owned .few, c .before .before .before .before .before .before .before .before .before .pre .1 .1 .0)
+step-element-copy-out-wide-3 t c = omega (arith, c .before .before .before .before .before .before .before .before .before .before .before .before .pre .1 .0 .numbered .owned .few, c .before .before .before .before .before .before .before .before .before .before .before .before .pre .1 .1 .0)
 
 step-wide-requires-3 : (t : ℕ) → step-lts.Need-wide-requires-3 (
   joined-reads.Asked,
   joined-reads.Learnt,
+  lesser-reads.Asked,
+  lesser-reads.Learnt,
   keep-reads.Asked,
   keep-reads.Learnt,
   wide-reads.Asked,
@@ -505,6 +624,8 @@ step-wide-requires-3 t c κs = search needs
 step-unlink-requires : (t : ℕ) → step-lts.Need-unlink-requires (
   joined-reads.Asked,
   joined-reads.Learnt,
+  lesser-reads.Asked,
+  lesser-reads.Learnt,
   keep-reads.Asked,
   keep-reads.Learnt,
   wide-reads.Asked,
@@ -517,15 +638,17 @@ step-unlink-requires : (t : ℕ) → step-lts.Need-unlink-requires (
   relink-reads.Learnt,
 ) (step-at t) step.Post
 step-unlink-requires t c κs =
-    let a = c .before .before .before .before .before .before .before .before .before .before .before .before .before .args in
-    let table = records (a .owners .now) (a .targets .now) (a .lengths .now) (a .highs .now) (a .lows .now) in
-    let start = memory (a .next .now) (a .prev .now) (a .out .now) (a .figures .now) (a .work) in
-    let p = c .before .before .before .before .before .before .before .before .before .before .before .before .before .pre .1 in
+    let a = c .before .before .before .before .before .before .before .before .before .before .before .before .before .before .before .before .args in
+    let table = records (a .owners .now) (a .targets .now) (a .lengths .now) (a .highs .now) (a .lows .now) (a .ttls .now) in
+    let start = memory (a .next .now) (a .prev .now) (a .out .now) (a .lives .now) (a .figures .now) (a .work) in
+    let p = c .before .before .before .before .before .before .before .before .before .before .before .before .before .before .before .before .pre .1 in
     (p .0 .nodes, p .0 .linked .level ∙ p .0 .nodes, p-node table start (a .bound) (a .limit) (a .i) (p .0) (p .1 .0) (p .1 .1) (c .before .before .before .before .wide2 .result) (c .before .before .wide3 .result) (c .before .before .before .before .wide2 .ensures) (c .before .before .wide3 .ensures), q-node table start (a .bound) (a .limit) (a .i) (p .0) (p .1 .0) (p .1 .1) (c .before .before .before .before .wide2 .result) (c .before .before .wide3 .result) (c .before .before .before .before .wide2 .ensures) (c .before .before .wide3 .ensures))
 
 step-add-head : (t : ℕ) → step-lts.Need-add-head (
   joined-reads.Asked,
   joined-reads.Learnt,
+  lesser-reads.Asked,
+  lesser-reads.Learnt,
   keep-reads.Asked,
   keep-reads.Learnt,
   wide-reads.Asked,
@@ -538,13 +661,15 @@ step-add-head : (t : ℕ) → step-lts.Need-add-head (
   relink-reads.Learnt,
 ) (step-at t) step.Post
 step-add-head t c =
-    let a = c .before .before .before .before .before .before .before .before .before .before .before .before .before .before .args in
-    let p = c .before .before .before .before .before .before .before .before .before .before .before .before .before .before .pre .1 in
+    let a = c .before .before .before .before .before .before .before .before .before .before .before .before .before .before .before .before .before .args in
+    let p = c .before .before .before .before .before .before .before .before .before .before .before .before .before .before .before .before .before .pre .1 in
     omega (arith, c .before .before .before .before .before .before .before .wide .ensures, p .0 .numbered .owned .few, p .0 .numbered .target (a .i) (p .1 .0) (omega (arith, c .before .before .before .before .before .before .before .before .before .if1 .left)))
 
 step-mul-wide-4 : (t : ℕ) → step-lts.Need-mul-wide-4 (
   joined-reads.Asked,
   joined-reads.Learnt,
+  lesser-reads.Asked,
+  lesser-reads.Learnt,
   keep-reads.Asked,
   keep-reads.Learnt,
   wide-reads.Asked,
@@ -557,13 +682,15 @@ step-mul-wide-4 : (t : ℕ) → step-lts.Need-mul-wide-4 (
   relink-reads.Learnt,
 ) (step-at t) step.Post
 step-mul-wide-4 t c =
-    let a = c .before .before .before .before .before .before .before .before .before .before .before .before .before .before .args in
-    let p = c .before .before .before .before .before .before .before .before .before .before .before .before .before .before .pre .1 in
+    let a = c .before .before .before .before .before .before .before .before .before .before .before .before .before .before .before .before .before .args in
+    let p = c .before .before .before .before .before .before .before .before .before .before .before .before .before .before .before .before .before .pre .1 in
     omega (arith, c .before .before .before .before .before .before .before .wide .ensures, p .0 .numbered .owned .few, p .0 .numbered .target (a .i) (p .1 .0) (omega (arith, c .before .before .before .before .before .before .before .before .before .if1 .left)))
 
 step-element-copy-out-wide-4 : (t : ℕ) → step-lts.Need-element-copy-out-wide-4 (
   joined-reads.Asked,
   joined-reads.Learnt,
+  lesser-reads.Asked,
+  lesser-reads.Learnt,
   keep-reads.Asked,
   keep-reads.Learnt,
   wide-reads.Asked,
@@ -576,13 +703,15 @@ step-element-copy-out-wide-4 : (t : ℕ) → step-lts.Need-element-copy-out-wide
   relink-reads.Learnt,
 ) (step-at t) step.Post
 step-element-copy-out-wide-4 t c =
-    let a = c .before .before .before .before .before .before .before .before .before .before .before .before .before .before .args in
-    let p = c .before .before .before .before .before .before .before .before .before .before .before .before .before .before .pre .1 in
+    let a = c .before .before .before .before .before .before .before .before .before .before .before .before .before .before .before .before .before .args in
+    let p = c .before .before .before .before .before .before .before .before .before .before .before .before .before .before .before .before .before .pre .1 in
     omega (arith, c .before .before .before .before .before .before .before .wide .ensures, p .0 .numbered .owned .few, p .0 .numbered .target (a .i) (p .1 .0) (omega (arith, c .before .before .before .before .before .before .before .before .before .if1 .left)))
 
 step-wide-requires-4 : (t : ℕ) → step-lts.Need-wide-requires-4 (
   joined-reads.Asked,
   joined-reads.Learnt,
+  lesser-reads.Asked,
+  lesser-reads.Learnt,
   keep-reads.Asked,
   keep-reads.Learnt,
   wide-reads.Asked,
@@ -599,6 +728,8 @@ step-wide-requires-4 t c κs = search needs
 step-search-requires : (t : ℕ) → step-lts.Need-search-requires (
   joined-reads.Asked,
   joined-reads.Learnt,
+  lesser-reads.Asked,
+  lesser-reads.Learnt,
   keep-reads.Asked,
   keep-reads.Learnt,
   wide-reads.Asked,
@@ -611,15 +742,15 @@ step-search-requires : (t : ℕ) → step-lts.Need-search-requires (
   relink-reads.Learnt,
 ) (step-at t) step.Post
 step-search-requires t c κs =
-    let a = c .before .before .before .before .before .before .before .before .before .before .before .before .before .before .before .before .before .before .before .before .before .args in
-    let table = records (a .owners .now) (a .targets .now) (a .lengths .now) (a .highs .now) (a .lows .now) in
-    let start = memory (a .next .now) (a .prev .now) (a .out .now) (a .figures .now) (a .work) in
-    let p = c .before .before .before .before .before .before .before .before .before .before .before .before .before .before .before .before .before .before .before .before .before .pre .1 in
-    let o : 0 < getD (a .lengths .now) (a .i) 0 = omega (arith, c .before .before .before .before .before .before .before .before .before .before .before .before .before .before .before .before .if1 .left) in (
-      omega (arith, c .before .before .before .before .before .before .before .before .before .before .before .before .before .before .before .before .before .before .before .before .before .pre .0, fewer table start (a .bound) (a .limit) (a .i) (p .0) (p .1 .0) (p .1 .1) (c .before .before .before .before .before .before .before .before .before .before .before .before .wide2 .result) (c .before .before .before .before .before .before .before .before .before .before .wide3 .result) (c .before .before .before .before .before .before .before .before .before .before .before .before .wide2 .ensures) (c .before .before .before .before .before .before .before .before .before .before .wide3 .ensures) (c .before .before .before .before .before .before .before .unlink .last .1 .1 .0) (c .before .before .before .before .before .before .before .unlink .last .1 .1 .1 .0) (c .before .before .before .before .before .before .before .unlink .ensures .0) (c .before .before .before .before .before .before .before .unlink .ensures .1)),
+    let a = c .before .before .before .before .before .before .before .before .before .before .before .before .before .before .before .before .before .before .before .before .before .before .before .before .before .args in
+    let table = records (a .owners .now) (a .targets .now) (a .lengths .now) (a .highs .now) (a .lows .now) (a .ttls .now) in
+    let start = memory (a .next .now) (a .prev .now) (a .out .now) (a .lives .now) (a .figures .now) (a .work) in
+    let p = c .before .before .before .before .before .before .before .before .before .before .before .before .before .before .before .before .before .before .before .before .before .before .before .before .before .pre .1 in
+    let o : 0 < getD (a .lengths .now) (a .i) 0 = omega (arith, c .before .before .before .before .before .before .before .before .before .before .before .before .before .before .before .before .before .if1 .left) in (
+      omega (arith, c .before .before .before .before .before .before .before .before .before .before .before .before .before .before .before .before .before .before .before .before .before .before .before .before .before .pre .0, fewer table start (a .bound) (a .limit) (a .i) (p .0) (p .1 .0) (p .1 .1) (c .before .before .before .before .before .before .before .before .before .before .before .before .before .wide2 .result) (c .before .before .before .before .before .before .before .before .before .before .before .wide3 .result) (c .before .before .before .before .before .before .before .before .before .before .before .before .before .wide2 .ensures) (c .before .before .before .before .before .before .before .before .before .before .before .wide3 .ensures) (c .before .before .before .before .before .before .before .before .unlink .last .1 .1 .0) (c .before .before .before .before .before .before .before .before .unlink .last .1 .1 .1 .0) (c .before .before .before .before .before .before .before .before .unlink .ensures .0) (c .before .before .before .before .before .before .before .before .unlink .ensures .1)),
       (
-        fit-without table start (a .bound) (a .limit) (a .i) (p .0) (p .1 .0) (p .1 .1) (c .before .before .before .before .before .before .before .before .before .before .before .before .wide2 .result) (c .before .before .before .before .before .before .before .before .before .before .wide3 .result) (c .before .before .before .before .before .before .before .before .before .before .before .before .wide2 .ensures) (c .before .before .before .before .before .before .before .before .before .before .wide3 .ensures) (c .before .before .before .before .before .before .before .unlink .last .1 .1 .0) (c .before .before .before .before .before .before .before .unlink .last .1 .1 .1 .0) (c .before .before .before .before .before .before .before .unlink .ensures .0) (c .before .before .before .before .before .before .before .unlink .ensures .1) (getD (a .lengths .now) (a .i) 0) o (p .1 .2),
-        omega (arith, c .before .before .before .before .before .before .before .before .before .before .before .before .before .before .wide .ensures, p .0 .numbered .owned .few, p .0 .numbered .target (a .i) (p .1 .0) (omega (arith, c .before .before .before .before .before .before .before .before .before .before .before .before .before .before .before .before .if1 .left))),
+        fit-without table start (a .bound) (a .limit) (a .i) (p .0) (p .1 .0) (p .1 .1) (c .before .before .before .before .before .before .before .before .before .before .before .before .before .wide2 .result) (c .before .before .before .before .before .before .before .before .before .before .before .wide3 .result) (c .before .before .before .before .before .before .before .before .before .before .before .before .before .wide2 .ensures) (c .before .before .before .before .before .before .before .before .before .before .before .wide3 .ensures) (c .before .before .before .before .before .before .before .before .unlink .last .1 .1 .0) (c .before .before .before .before .before .before .before .before .unlink .last .1 .1 .1 .0) (c .before .before .before .before .before .before .before .before .unlink .ensures .0) (c .before .before .before .before .before .before .before .before .unlink .ensures .1) (getD (a .lengths .now) (a .i) 0) o (p .1 .2),
+        omega (arith, c .before .before .before .before .before .before .before .before .before .before .before .before .before .before .before .wide .ensures, p .0 .numbered .owned .few, p .0 .numbered .target (a .i) (p .1 .0) (omega (arith, c .before .before .before .before .before .before .before .before .before .before .before .before .before .before .before .before .before .if1 .left))),
       ),
     )
 
@@ -627,6 +758,8 @@ step-search-requires t c κs =
 step-left : (t : ℕ) (c : step-lts.Joined2 (
   joined-reads.Asked,
   joined-reads.Learnt,
+  lesser-reads.Asked,
+  lesser-reads.Learnt,
   keep-reads.Asked,
   keep-reads.Learnt,
   wide-reads.Asked,
@@ -638,33 +771,35 @@ step-left : (t : ℕ) (c : step-lts.Joined2 (
   relink-reads.Asked,
   relink-reads.Learnt,
 ) (step-at t) step.Post) → (
-    let a = c .before .before .before .before .before .before .before .before .before .before .before .before .before .before .before .before .before .args in
-    let table = records (a .owners .now) (a .targets .now) (a .lengths .now) (a .highs .now) (a .lows .now) in
-    let start = memory (a .next .now) (a .prev .now) (a .out .now) (a .figures .now) (a .work) in
-    let p = c .before .before .before .before .before .before .before .before .before .before .before .before .before .before .before .before .before .pre .1 in
+    let a = c .before .before .before .before .before .before .before .before .before .before .before .before .before .before .before .before .before .before .before .before .args in
+    let table = records (a .owners .now) (a .targets .now) (a .lengths .now) (a .highs .now) (a .lows .now) (a .ttls .now) in
+    let start = memory (a .next .now) (a .prev .now) (a .out .now) (a .lives .now) (a .figures .now) (a .work) in
+    let p = c .before .before .before .before .before .before .before .before .before .before .before .before .before .before .before .before .before .before .before .before .pre .1 in
     let W = without table start (a .bound) (a .limit) (a .i) (p .0) (p .1 .0) (p .1 .1) (c .before .before .before .before .before .before .before .before .wide2 .result) (c .before .before .before .before .before .before .wide3 .result) (c .before .before .before .before .before .before .before .before .wide2 .ensures) (c .before .before .before .before .before .before .wide3 .ensures) (c .before .before .before .unlink .last .1 .1 .0) (c .before .before .before .unlink .last .1 .1 .1 .0) (c .before .before .before .unlink .ensures .0) (c .before .before .before .unlink .ensures .1) in
-    Done W (memory (c .if2 .next) (c .if2 .prev) (c .if2 .out) (c .if2 .figures) (c .if2 .r))
-    (searchOf table (a .limit) (c .before .before .before .before .before .before .before .before .before .before .wide .result) (getD (a .lengths .now) (a .i) 0) (addressOf (c .before .before .before .before .before .before .before .before .before .before .before .before .before .joined .result .high) (c .before .before .before .before .before .before .before .before .before .before .before .before .before .joined .result .low)) W))
+    Done W (memory (c .if2 .next) (c .if2 .prev) (c .if2 .out) (c .if2 .lives) (c .if2 .figures) (c .if2 .r))
+    (searchOf table (a .limit) (c .before .before .before .before .before .before .before .before .before .before .wide .result) (getD (a .lengths .now) (a .i) 0) (addressOf (c .before .before .before .before .before .before .before .before .before .before .before .before .before .before .before .joined .result .high) (c .before .before .before .before .before .before .before .before .before .before .before .before .before .before .before .joined .result .low)) (c .before .before .before .before .before .before .before .before .before .before .before .before .before .lesser .result) W))
 step-left t c =
-    let a = c .before .before .before .before .before .before .before .before .before .before .before .before .before .before .before .before .before .args in
-    let table = records (a .owners .now) (a .targets .now) (a .lengths .now) (a .highs .now) (a .lows .now) in
-    let start = memory (a .next .now) (a .prev .now) (a .out .now) (a .figures .now) (a .work) in
-    let p = c .before .before .before .before .before .before .before .before .before .before .before .before .before .before .before .before .before .pre .1 in
+    let a = c .before .before .before .before .before .before .before .before .before .before .before .before .before .before .before .before .before .before .before .before .args in
+    let table = records (a .owners .now) (a .targets .now) (a .lengths .now) (a .highs .now) (a .lows .now) (a .ttls .now) in
+    let start = memory (a .next .now) (a .prev .now) (a .out .now) (a .lives .now) (a .figures .now) (a .work) in
+    let p = c .before .before .before .before .before .before .before .before .before .before .before .before .before .before .before .before .before .before .before .before .pre .1 in
     let o : 0 < getD (a .lengths .now) (a .i) 0 = omega (arith, c .before .before .before .before .before .before .before .before .before .before .before .before .if1 .left) in
     let j = c .if2 in
-    let m′ = memory (j .next) (j .prev) (j .out) (j .figures) (j .r) in
-    let v = addressOf (c .before .before .before .before .before .before .before .before .before .before .before .before .before .joined .result .high) (c .before .before .before .before .before .before .before .before .before .before .before .before .before .joined .result .low) in
+    let m′ = memory (j .next) (j .prev) (j .out) (j .lives) (j .figures) (j .r) in
+    let v = addressOf (c .before .before .before .before .before .before .before .before .before .before .before .before .before .before .before .joined .result .high) (c .before .before .before .before .before .before .before .before .before .before .before .before .before .before .before .joined .result .low) in
     let W = without table start (a .bound) (a .limit) (a .i) (p .0) (p .1 .0) (p .1 .1) (c .before .before .before .before .before .before .before .before .wide2 .result) (c .before .before .before .before .before .before .wide3 .result) (c .before .before .before .before .before .before .before .before .wide2 .ensures) (c .before .before .before .before .before .before .wide3 .ensures) (c .before .before .before .unlink .last .1 .1 .0) (c .before .before .before .unlink .last .1 .1 .1 .0) (c .before .before .before .unlink .ensures .0) (c .before .before .before .unlink .ensures .1) in
-    let S = searchOf table (a .limit) (c .before .before .before .before .before .before .before .before .before .before .wide .result) (getD (a .lengths .now) (a .i) 0) v W in
+    let S = searchOf table (a .limit) (c .before .before .before .before .before .before .before .before .before .before .wide .result) (getD (a .lengths .now) (a .i) 0) v (c .before .before .before .before .before .before .before .before .before .before .before .before .before .lesser .result) W in
     ⊎-elim
-    (λ w. done-as W _ m′ S (memory-eq (w .8) (w .9) (w .10) (w .11) (w .12)) (w .5 .ensures))
-    (λ w. done-as W W m′ S (memory-eq (w .1) (w .2) (w .3) (w .4) (w .5))
-    (nothing table start (a .bound) (a .limit) (a .i) (p .0) (p .1 .0) (p .1 .1) (c .before .before .before .before .before .before .before .before .wide2 .result) (c .before .before .before .before .before .before .wide3 .result) (c .before .before .before .before .before .before .before .before .wide2 .ensures) (c .before .before .before .before .before .before .wide3 .ensures) (c .before .before .before .unlink .last .1 .1 .0) (c .before .before .before .unlink .last .1 .1 .1 .0) (c .before .before .before .unlink .ensures .0) (c .before .before .before .unlink .ensures .1) (c .before .before .before .before .before .before .before .before .before .before .wide .result) (getD (a .lengths .now) (a .i) 0) v o (p .1 .2) (omega (arith, c .before .before .before .before .before .before .before .before .before .before .wide .ensures, p .0 .numbered .owned .few, p .0 .numbered .target (a .i) (p .1 .0) (omega (arith, c .before .before .before .before .before .before .before .before .before .before .before .before .if1 .left)))) (omega (arith, c .before .wide4 .ensures, w .0 .left))))
+    (λ w. done-as W _ m′ S (memory-eq (w .11) (w .12) (w .13) (w .14) (w .15) (w .16)) (w .6 .ensures))
+    (λ w. done-as W W m′ S (memory-eq (w .1) (w .2) (w .3) (w .4) (w .5) (w .6))
+    (nothing table start (a .bound) (a .limit) (a .i) (p .0) (p .1 .0) (p .1 .1) (c .before .before .before .before .before .before .before .before .wide2 .result) (c .before .before .before .before .before .before .wide3 .result) (c .before .before .before .before .before .before .before .before .wide2 .ensures) (c .before .before .before .before .before .before .wide3 .ensures) (c .before .before .before .unlink .last .1 .1 .0) (c .before .before .before .unlink .last .1 .1 .1 .0) (c .before .before .before .unlink .ensures .0) (c .before .before .before .unlink .ensures .1) (c .before .before .before .before .before .before .before .before .before .before .wide .result) (getD (a .lengths .now) (a .i) 0) v (c .before .before .before .before .before .before .before .before .before .before .before .before .before .lesser .result) o (p .1 .2) (omega (arith, c .before .before .before .before .before .before .before .before .before .before .wide .ensures, p .0 .numbered .owned .few, p .0 .numbered .target (a .i) (p .1 .0) (omega (arith, c .before .before .before .before .before .before .before .before .before .before .before .before .if1 .left)))) (omega (arith, c .before .wide4 .ensures, w .0 .left))))
     (j .came)
 
 step-relink-requires : (t : ℕ) → step-lts.Need-relink-requires (
   joined-reads.Asked,
   joined-reads.Learnt,
+  lesser-reads.Asked,
+  lesser-reads.Learnt,
   keep-reads.Asked,
   keep-reads.Learnt,
   wide-reads.Asked,
@@ -677,23 +812,25 @@ step-relink-requires : (t : ℕ) → step-lts.Need-relink-requires (
   relink-reads.Learnt,
 ) (step-at t) step.Post
 step-relink-requires t c κs =
-    let a = c .before .before .before .before .before .before .before .before .before .before .before .before .before .before .before .before .before .before .before .args in
-    let table = records (a .owners .now) (a .targets .now) (a .lengths .now) (a .highs .now) (a .lows .now) in
-    let start = memory (a .next .now) (a .prev .now) (a .out .now) (a .figures .now) (a .work) in
-    let p = c .before .before .before .before .before .before .before .before .before .before .before .before .before .before .before .before .before .before .before .pre .1 in
+    let a = c .before .before .before .before .before .before .before .before .before .before .before .before .before .before .before .before .before .before .before .before .before .before .args in
+    let table = records (a .owners .now) (a .targets .now) (a .lengths .now) (a .highs .now) (a .lows .now) (a .ttls .now) in
+    let start = memory (a .next .now) (a .prev .now) (a .out .now) (a .lives .now) (a .figures .now) (a .work) in
+    let p = c .before .before .before .before .before .before .before .before .before .before .before .before .before .before .before .before .before .before .before .before .before .before .pre .1 in
     let o : 0 < getD (a .lengths .now) (a .i) 0 = omega (arith, c .before .before .before .before .before .before .before .before .before .before .before .before .before .before .if1 .left) in
     let j = c .before .before .if2 in
-    let m′ = memory (j .next) (j .prev) (j .out) (j .figures) (j .r) in
-    let v = addressOf (c .before .before .before .before .before .before .before .before .before .before .before .before .before .before .before .joined .result .high) (c .before .before .before .before .before .before .before .before .before .before .before .before .before .before .before .joined .result .low) in
+    let m′ = memory (j .next) (j .prev) (j .out) (j .lives) (j .figures) (j .r) in
+    let v = addressOf (c .before .before .before .before .before .before .before .before .before .before .before .before .before .before .before .before .before .joined .result .high) (c .before .before .before .before .before .before .before .before .before .before .before .before .before .before .before .before .before .joined .result .low) in
     let W = without table start (a .bound) (a .limit) (a .i) (p .0) (p .1 .0) (p .1 .1) (c .before .before .before .before .before .before .before .before .before .before .wide2 .result) (c .before .before .before .before .before .before .before .before .wide3 .result) (c .before .before .before .before .before .before .before .before .before .before .wide2 .ensures) (c .before .before .before .before .before .before .before .before .wide3 .ensures) (c .before .before .before .before .before .unlink .last .1 .1 .0) (c .before .before .before .before .before .unlink .last .1 .1 .1 .0) (c .before .before .before .before .before .unlink .ensures .0) (c .before .before .before .before .before .unlink .ensures .1) in
-    let S = searchOf table (a .limit) (c .before .before .before .before .before .before .before .before .before .before .before .before .wide .result) (getD (a .lengths .now) (a .i) 0) v W in
+    let S = searchOf table (a .limit) (c .before .before .before .before .before .before .before .before .before .before .before .before .wide .result) (getD (a .lengths .now) (a .i) 0) v (c .before .before .before .before .before .before .before .before .before .before .before .before .before .before .before .lesser .result) W in
     let d = step-left t (c .before .before) in
     let g = still-long table start (a .bound) (a .limit) (a .i) (p .0) (p .1 .0) (p .1 .1) (c .before .before .before .before .before .before .before .before .before .before .wide2 .result) (c .before .before .before .before .before .before .before .before .wide3 .result) (c .before .before .before .before .before .before .before .before .before .before .wide2 .ensures) (c .before .before .before .before .before .before .before .before .wide3 .ensures) (c .before .before .before .before .before .unlink .last .1 .1 .0) (c .before .before .before .before .before .unlink .last .1 .1 .1 .0) (c .before .before .before .before .before .unlink .ensures .0) (c .before .before .before .before .before .unlink .ensures .1) m′ S d in
     (g .0, g .1, p-node table start (a .bound) (a .limit) (a .i) (p .0) (p .1 .0) (p .1 .1) (c .before .before .before .before .before .before .before .before .before .before .wide2 .result) (c .before .before .before .before .before .before .before .before .wide3 .result) (c .before .before .before .before .before .before .before .before .before .before .wide2 .ensures) (c .before .before .before .before .before .before .before .before .wide3 .ensures), q-node table start (a .bound) (a .limit) (a .i) (p .0) (p .1 .0) (p .1 .1) (c .before .before .before .before .before .before .before .before .before .before .wide2 .result) (c .before .before .before .before .before .before .before .before .wide3 .result) (c .before .before .before .before .before .before .before .before .before .before .wide2 .ensures) (c .before .before .before .before .before .before .before .before .wide3 .ensures), omega (arith, p .0 .numbered .owned .few, p .1 .0))
 
-step-same-length-2 : (t : ℕ) → step-lts.Need-same-length-2 (
+step-same-length-3 : (t : ℕ) → step-lts.Need-same-length-3 (
   joined-reads.Asked,
   joined-reads.Learnt,
+  lesser-reads.Asked,
+  lesser-reads.Learnt,
   keep-reads.Asked,
   keep-reads.Learnt,
   wide-reads.Asked,
@@ -705,11 +842,31 @@ step-same-length-2 : (t : ℕ) → step-lts.Need-same-length-2 (
   relink-reads.Asked,
   relink-reads.Learnt,
 ) (step-at t) step.Post
-step-same-length-2 t c = ⊎-elim (λ w. ap length (w .10) ∙ w .5 .kept .1 .1 .1 .1 .1 .1 .1 .1 .1 .1 .1 .1 .0) (λ w. ap length (w .3)) (c .before .before .before .if2 .came)
+step-same-length-3 t c = ⊎-elim (λ w. ap length (w .13) ∙ w .6 .kept .1 .1 .1 .1 .1 .1 .1 .1 .1 .1 .1 .1 .1 .1 .0) (λ w. ap length (w .3)) (c .before .before .before .if2 .came)
+
+step-same-length-4 : (t : ℕ) → step-lts.Need-same-length-4 (
+  joined-reads.Asked,
+  joined-reads.Learnt,
+  lesser-reads.Asked,
+  lesser-reads.Learnt,
+  keep-reads.Asked,
+  keep-reads.Learnt,
+  wide-reads.Asked,
+  wide-reads.Learnt,
+  unlink-reads.Asked,
+  unlink-reads.Learnt,
+  search-below t,
+  search′.Post,
+  relink-reads.Asked,
+  relink-reads.Learnt,
+) (step-at t) step.Post
+step-same-length-4 t c = ⊎-elim (λ w. ap length (w .14) ∙ w .6 .kept .1 .1 .1 .1 .1 .1 .1 .1 .1 .1 .1 .1 .1 .1 .1 .0) (λ w. ap length (w .4)) (c .before .before .before .if2 .came)
 
 step-returns-2 : (t : ℕ) → step-lts.Need-returns-2 (
   joined-reads.Asked,
   joined-reads.Learnt,
+  lesser-reads.Asked,
+  lesser-reads.Learnt,
   keep-reads.Asked,
   keep-reads.Learnt,
   wide-reads.Asked,
@@ -722,18 +879,18 @@ step-returns-2 : (t : ℕ) → step-lts.Need-returns-2 (
   relink-reads.Learnt,
 ) (step-at t) step.Post
 step-returns-2 t c =
-    let a = c .before .before .before .before .before .before .before .before .before .before .before .before .before .before .before .before .before .before .before .before .args in
-    let table = records (a .owners .now) (a .targets .now) (a .lengths .now) (a .highs .now) (a .lows .now) in
-    let start = memory (a .next .now) (a .prev .now) (a .out .now) (a .figures .now) (a .work) in
-    let p = c .before .before .before .before .before .before .before .before .before .before .before .before .before .before .before .before .before .before .before .before .pre .1 in
+    let a = c .before .before .before .before .before .before .before .before .before .before .before .before .before .before .before .before .before .before .before .before .before .before .before .args in
+    let table = records (a .owners .now) (a .targets .now) (a .lengths .now) (a .highs .now) (a .lows .now) (a .ttls .now) in
+    let start = memory (a .next .now) (a .prev .now) (a .out .now) (a .lives .now) (a .figures .now) (a .work) in
+    let p = c .before .before .before .before .before .before .before .before .before .before .before .before .before .before .before .before .before .before .before .before .before .before .before .pre .1 in
     let o : 0 < getD (a .lengths .now) (a .i) 0 = omega (arith, c .before .before .before .before .before .before .before .before .before .before .before .before .before .before .before .if1 .left) in
     let j = c .before .before .before .if2 in
-    let m′ = memory (j .next) (j .prev) (j .out) (j .figures) (j .r) in
-    let v = addressOf (c .before .before .before .before .before .before .before .before .before .before .before .before .before .before .before .before .joined .result .high) (c .before .before .before .before .before .before .before .before .before .before .before .before .before .before .before .before .joined .result .low) in
+    let m′ = memory (j .next) (j .prev) (j .out) (j .lives) (j .figures) (j .r) in
+    let v = addressOf (c .before .before .before .before .before .before .before .before .before .before .before .before .before .before .before .before .before .before .joined .result .high) (c .before .before .before .before .before .before .before .before .before .before .before .before .before .before .before .before .before .before .joined .result .low) in
     let W = without table start (a .bound) (a .limit) (a .i) (p .0) (p .1 .0) (p .1 .1) (c .before .before .before .before .before .before .before .before .before .before .before .wide2 .result) (c .before .before .before .before .before .before .before .before .before .wide3 .result) (c .before .before .before .before .before .before .before .before .before .before .before .wide2 .ensures) (c .before .before .before .before .before .before .before .before .before .wide3 .ensures) (c .before .before .before .before .before .before .unlink .last .1 .1 .0) (c .before .before .before .before .before .before .unlink .last .1 .1 .1 .0) (c .before .before .before .before .before .before .unlink .ensures .0) (c .before .before .before .before .before .before .unlink .ensures .1) in
-    let S = searchOf table (a .limit) (c .before .before .before .before .before .before .before .before .before .before .before .before .before .wide .result) (getD (a .lengths .now) (a .i) 0) v W in
+    let S = searchOf table (a .limit) (c .before .before .before .before .before .before .before .before .before .before .before .before .before .wide .result) (getD (a .lengths .now) (a .i) 0) v (c .before .before .before .before .before .before .before .before .before .before .before .before .before .before .before .before .lesser .result) W in
     let d = step-left t (c .before .before .before) in
-    done-unfinished table start (a .bound) (a .limit) (a .i) (p .0) (p .1 .0) (p .1 .1) (c .before .before .before .before .before .before .before .before .before .before .before .wide2 .result) (c .before .before .before .before .before .before .before .before .before .wide3 .result) (c .before .before .before .before .before .before .before .before .before .before .before .wide2 .ensures) (c .before .before .before .before .before .before .before .before .before .wide3 .ensures) (c .before .before .before .before .before .before .unlink .last .1 .1 .0) (c .before .before .before .before .before .before .unlink .last .1 .1 .1 .0) (c .before .before .before .before .before .before .unlink .ensures .0) (c .before .before .before .before .before .before .unlink .ensures .1) m′ S d (addressOf (a .high) (a .low)) v (c .before .before .before .before .before .before .before .before .before .before .before .before .before .wide .result) (p .1 .3) o (c .before .before .before .before .before .before .before .before .before .before .before .before .before .wide .ensures) (c .before .before .before .before .before .before .before .before .before .before .before .before .before .before .before .before .joined .ensures) refl
+    done-unfinished table start (a .bound) (a .limit) (a .i) (p .0) (p .1 .0) (p .1 .1) (c .before .before .before .before .before .before .before .before .before .before .before .wide2 .result) (c .before .before .before .before .before .before .before .before .before .wide3 .result) (c .before .before .before .before .before .before .before .before .before .before .before .wide2 .ensures) (c .before .before .before .before .before .before .before .before .before .wide3 .ensures) (c .before .before .before .before .before .before .unlink .last .1 .1 .0) (c .before .before .before .before .before .before .unlink .last .1 .1 .1 .0) (c .before .before .before .before .before .before .unlink .ensures .0) (c .before .before .before .before .before .before .unlink .ensures .1) m′ S d (addressOf (a .high) (a .low)) v (a .ttl) (c .before .before .before .before .before .before .before .before .before .before .before .before .before .before .before .before .lesser .result) (c .before .before .before .before .before .before .before .before .before .before .before .before .before .wide .result) (p .1 .3) o (c .before .before .before .before .before .before .before .before .before .before .before .before .before .wide .ensures) (c .before .before .before .before .before .before .before .before .before .before .before .before .before .before .before .before .before .before .joined .ensures) (c .before .before .before .before .before .before .before .before .before .before .before .before .before .before .before .before .lesser .ensures) refl
     (c .relink .last .1 .1 .1 .0) (c .relink .last .1 .1 .1 .1 .0) (c .relink .ensures .0) (c .relink .ensures .1)
 
 pub +search+step-spec : {M : Type 1} → statement M
@@ -753,6 +910,7 @@ pub +search+step-spec : {M : Type 1} → statement M
     (search-wide-requires t)
     (search-loop-holds t)
     (search-same-length t)
+    (search-same-length-2 t)
     (search-returns t)
     (search-element-copy-out-if2 t)
     (search-step-requires t)
@@ -761,11 +919,14 @@ pub +search+step-spec : {M : Type 1} → statement M
     (search-wide-requires-2 t)
     (search-loop-less t)
     (search-loop-again t)
-    (search-same-length-2 t)
+    (search-same-length-3 t)
+    (search-same-length-4 t)
     (search-returns-2 t))
     λ t. step-lts.spec (
       joined-reads.Asked,
       joined-reads.Learnt,
+      lesser-reads.Asked,
+      lesser-reads.Learnt,
       keep-reads.Asked,
       keep-reads.Learnt,
       wide-reads.Asked,
@@ -781,9 +942,13 @@ pub +search+step-spec : {M : Type 1} → statement M
     step.Post
     (step-element-copy-out-length t)
     (step-joined-requires t)
+    (step-mul-lesser t)
+    (step-element-copy-out-lesser t)
+    (step-lesser-requires t)
     (step-add-w t)
     (step-keep-requires t)
     (step-same-length t)
+    (step-same-length-2 t)
     (step-returns t)
     (step-mul-wide t)
     (step-element-copy-out-wide t)
@@ -801,5 +966,6 @@ pub +search+step-spec : {M : Type 1} → statement M
     (step-wide-requires-4 t)
     (step-search-requires t)
     (step-relink-requires t)
-    (step-same-length-2 t)
+    (step-same-length-3 t)
+    (step-same-length-4 t)
     (step-returns-2 t)

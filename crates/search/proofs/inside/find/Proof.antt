@@ -6,35 +6,40 @@ use lib.ListN.{length}
 use borrow.Author.Tests.{eq-eqb, ne-eqb}
 use borrow.Author.Needs.{needs}
 use Rattle.octets.specs.Octets.{blank}
-use Rattle.chains.specs.Graph.{Sound}
+use Rattle.chains.specs.Graph.{Sound, maxTtl}
 use Rattle.search.specs.Search.{Records, records, graphOf, searched}
-use Rattle.search.specs.Links.{memory, stateOf}
+use Rattle.search.specs.Links.{Memory, memory, stateOf}
 use Rattle.search.specs.Answers.{outputOf}
-use Rattle.search.proofs.AnswerLaws.{start, numbered-sound, fit-first, state-first, found-over, found-full, found-answer, found-output, found-few, refused-answer, refused-output}
+use Rattle.search.proofs.AnswerLaws.{start, numbered-sound, fit-first, state-first, found-over, found-full, found-answer, found-output, found-lives, found-few, refused-answer, refused-output, refused-lives}
 use Rattle.search.proofs.inside.find.Statement.{statement}
 use Rattle.search.proofs.inside.find.Tie as tie
 
 -- the records, and the state that the search leaves
-abbrev given : tie.Start → Records
-given c = records (c .args .owners .now) (c .args .targets .now) (c .args .lengths .now) (c .args .highs .now) (c .args .lows .now)
+abbrev given : (c : tie.Start) → Records
+given c = records (c .args .owners .now) (c .args .targets .now) (c .args .lengths .now) (c .args .highs .now) (c .args .lows .now) (c .args .ttls .now)
 
 sound : (c : tie.Start) → Sound (graphOf (given c))
 sound c = numbered-sound (given c) (c .pre .0 .0)
 
-ran : (c : tie.After-search) → stateOf (memory (c .search .last .1 .1 .1 .1 .1 .1 .1 .1 .1 .0) (c .search .last .1 .1 .1 .1 .1 .1 .1 .1 .1 .1 .0) (c .search .last .1 .1 .1 .1 .1 .1 .1 .1 .1 .1 .1 .1 .0) (c .search .last .1 .1 .1 .1 .1 .1 .1 .1 .1 .1 .1 .1 .1 .0) (c .search .result))
-    ≡ searched (graphOf (given (c .before .before .before .before .before .before .before .before .before .before))) (c .before .before .before .before .before .before .before .before .before .before .args .limit) (blank (length (c .before .before .before .before .before .before .before .before .before .before .args .owners .now))) (c .before .before .before .before .before .before .before .before .before .before .args .x) 128 (blank 16) (0, start (length (c .before .before .before .before .before .before .before .before .before .before .args .out .now) / 16))
+-- the memory that it leaves
+abbrev left : tie.After-search → Memory
+left c = memory (c .search .last .1 .1 .1 .1 .1 .1 .1 .1 .1 .1 .1 .0) (c .search .last .1 .1 .1 .1 .1 .1 .1 .1 .1 .1 .1 .1 .0) (c .search .last .1 .1 .1 .1 .1 .1 .1 .1 .1 .1 .1 .1 .1 .1 .0) (c .search .last .1 .1 .1 .1 .1 .1 .1 .1 .1 .1 .1 .1 .1 .1 .1 .0) (c .search .last .1 .1 .1 .1 .1 .1 .1 .1 .1 .1 .1 .1 .1 .1 .1 .1 .0) (c .search .result)
+
+ran : (c : tie.After-search) → stateOf (left c)
+    ≡ searched (graphOf (given (c .before .before .before .before .before .before .before .before .before .before .before .before))) (c .before .before .before .before .before .before .before .before .before .before .before .before .args .limit) (blank (length (c .before .before .before .before .before .before .before .before .before .before .before .before .args .owners .now))) (c .before .before .before .before .before .before .before .before .before .before .before .before .args .x) 128 (blank 16) maxTtl (0, start (length (c .before .before .before .before .before .before .before .before .before .before .before .before .args .out .now) / 16))
 ran c =
-    let p = c .before .before .before .before .before .before .before .before .before .before .pre in
-    state-first (given (c .before .before .before .before .before .before .before .before .before .before)) (p .0 .0) (c .before .before .before .before .before .link .last .1 .0) (c .before .before .before .before .before .link .last .1 .1 .0) (c .before .before .before .before .before .before .before .before .before .before .args .out .now) (c .before .before .before .before .before .before .before .before .before .before .args .limit) (c .before .before .before .before .before .link .ensures) (p .1 .0) (p .1 .1) (c .before .before .before .before .before .before .before .before .before .before .args .x)
-    (memory (c .search .last .1 .1 .1 .1 .1 .1 .1 .1 .1 .0) (c .search .last .1 .1 .1 .1 .1 .1 .1 .1 .1 .1 .0) (c .search .last .1 .1 .1 .1 .1 .1 .1 .1 .1 .1 .1 .1 .0) (c .search .last .1 .1 .1 .1 .1 .1 .1 .1 .1 .1 .1 .1 .1 .0) (c .search .result)) (c .search .ensures)
+    let p = c .before .before .before .before .before .before .before .before .before .before .before .before .pre in
+    let a = c .before .before .before .before .before .before .before .before .before .before .before .before .args in
+    state-first (given (c .before .before .before .before .before .before .before .before .before .before .before .before)) (p .0 .0) (c .before .before .before .before .before .before .link .last .1 .0) (c .before .before .before .before .before .before .link .last .1 .1 .0) (a .out .now) (a .lives .now) (a .limit) (c .before .before .before .before .before .before .link .ensures) (p .1 .0) (p .1 .1) (p .1 .2) (p .1 .3) (a .x) (left c) (c .search .ensures)
 
 link-requires : tie.Need-link-requires
 link-requires c κs = search needs
 
 search-requires : tie.Need-search-requires
 search-requires c κs =
-    let p = c .before .before .before .before .before .before .before .before .before .pre in
-    (fit-first (given (c .before .before .before .before .before .before .before .before .before)) (p .0 .0) (c .before .before .before .before .link .last .1 .0) (c .before .before .before .before .link .last .1 .1 .0) (c .before .before .before .before .before .before .before .before .before .args .out .now) (c .before .before .before .before .before .before .before .before .before .args .limit) (c .before .before .before .before .link .ensures) (p .1 .0) (p .1 .1) (omega arith), p .0 .1)
+    let p = c .before .before .before .before .before .before .before .before .before .before .before .pre in
+    let a = c .before .before .before .before .before .before .before .before .before .before .before .args in
+    (fit-first (given (c .before .before .before .before .before .before .before .before .before .before .before)) (p .0 .0) (c .before .before .before .before .before .link .last .1 .0) (c .before .before .before .before .before .link .last .1 .1 .0) (a .out .now) (a .lives .now) (a .limit) (c .before .before .before .before .before .link .ensures) (p .1 .0) (p .1 .1) (p .1 .2) (p .1 .3) (omega arith), p .0 .1)
 
 array-read-count : tie.Need-array-read-count
 array-read-count c = search needs
@@ -42,57 +47,78 @@ array-read-count c = search needs
 array-read-full : tie.Need-array-read-full
 array-read-full c = search needs
 
-clear-requires : tie.Need-clear-requires
-clear-requires c κs = search needs
-
-refused-requires : tie.Need-refused-requires
-refused-requires c κs = search needs
+refuse-requires : tie.Need-refuse-requires
+refuse-requires c κs = search needs
 
 same-length : tie.Need-same-length
 same-length c = search needs
 
-returns : tie.Need-returns
-returns c =
-    let a = c .before .before .before .before .before .before .before .before .before .before .before .before .before .before .before .before .before .before .args in
-    let g = graphOf (given (c .before .before .before .before .before .before .before .before .before .before .before .before .before .before .before .before .before .before)) in
-    let e = found-over g (sound (c .before .before .before .before .before .before .before .before .before .before .before .before .before .before .before .before .before .before)) (a .x) (a .limit) (length (a .out .now) / 16) _ (ran (c .before .before .before .before .before .before .before .before)) (c .before .before .before .before .before .if1 .taken) in
-    (c .refused .ensures ∙ refused-answer g (a .x) _ 5 e, c .before .before .before .clear .ensures ∙ ap blank (c .before .before .before .before .before .before .before .before .search .kept .1 .1 .1 .1 .1 .1 .1 .1 .1 .1 .1 .1 .0) ∙ refused-output g (a .x) _ 5 e (length (a .out .now)))
-
-clear-requires-2 : tie.Need-clear-requires-2
-clear-requires-2 c κs = search needs
-
-refused-requires-2 : tie.Need-refused-requires-2
-refused-requires-2 c κs = search needs
-
 same-length-2 : tie.Need-same-length-2
 same-length-2 c = search needs
 
-returns-2 : tie.Need-returns-2
-returns-2 c =
-    let a = c .before .before .before .before .before .before .before .before .before .before .before .before .before .before .before .before .before .before .before .args in
-    let g = graphOf (given (c .before .before .before .before .before .before .before .before .before .before .before .before .before .before .before .before .before .before .before)) in
-    let e = found-full g (sound (c .before .before .before .before .before .before .before .before .before .before .before .before .before .before .before .before .before .before .before)) (a .x) (a .limit) (length (a .out .now) / 16) _ (ran (c .before .before .before .before .before .before .before .before .before)) (c .before .before .before .before .before .before .if1 .left) (eq-eqb _ 1 (c .before .before .before .before .before .if2 .taken)) in
-    (c .refused2 .ensures ∙ refused-answer g (a .x) _ 6 e, c .before .before .before .clear2 .ensures ∙ ap blank (c .before .before .before .before .before .before .before .before .before .search .kept .1 .1 .1 .1 .1 .1 .1 .1 .1 .1 .1 .1 .0) ∙ refused-output g (a .x) _ 6 e (length (a .out .now)))
+returns : tie.Need-returns
+returns c =
+    let a = c .before .before .before .before .before .before .before .before .before .before .before .before .before .before .before .before .before .before .before .before .before .before .before .before .args in
+    let g = graphOf (given (c .before .before .before .before .before .before .before .before .before .before .before .before .before .before .before .before .before .before .before .before .before .before .before .before)) in
+    let e = found-over g (sound (c .before .before .before .before .before .before .before .before .before .before .before .before .before .before .before .before .before .before .before .before .before .before .before .before)) (a .x) (a .limit) (length (a .out .now) / 16) _ (ran (c .before .before .before .before .before .before .before .before .before .before .before .before)) (c .before .before .before .before .before .before .before .if1 .taken) in
+    let k = c .before .before .before .before .before .before .before .before .before .before .before .before .search .kept in
+    let y : length (a .lives .now) ≡ length (a .out .now) / 16 = omega (arith, c .before .before .before .before .before .before .before .before .before .before .before .before .before .before .before .before .before .before .before .before .before .before .before .before .pre .1 .2) in (
+      c .before .before .before .before .refuse .ensures .0 ∙ refused-answer g (a .x) _ 5 e,
+      (
+        c .before .before .before .before .refuse .ensures .1 ∙ ap blank (k .1 .1 .1 .1 .1 .1 .1 .1 .1 .1 .1 .1 .1 .1 .0) ∙ refused-output g (a .x) _ 5 e (length (a .out .now)),
+        c .before .before .before .before .refuse .ensures .2 ∙ ap blank (k .1 .1 .1 .1 .1 .1 .1 .1 .1 .1 .1 .1 .1 .1 .1 .0 ∙ y) ∙ refused-lives g (a .x) _ 5 e (length (a .out .now) / 16),
+      ),
+    )
 
-cast-found : tie.Need-cast-found
-cast-found c =
-    let a = c .before .before .before .before .before .before .before .before .before .before .before .before .before .before .args in
-    let g = graphOf (given (c .before .before .before .before .before .before .before .before .before .before .before .before .before .before)) in
-    omega (arith, found-few g (sound (c .before .before .before .before .before .before .before .before .before .before .before .before .before .before)) (a .x) (a .limit) (length (a .out .now) / 16) _ (ran (c .before .before .before .before)) (c .before .if1 .left) (ne-eqb _ 1 (c .if2 .left)))
-
-cast-spent : tie.Need-cast-spent
-cast-spent c = search needs
+refuse-requires-2 : tie.Need-refuse-requires-2
+refuse-requires-2 c κs = search needs
 
 same-length-3 : tie.Need-same-length-3
 same-length-3 c = search needs
 
+same-length-4 : tie.Need-same-length-4
+same-length-4 c = search needs
+
+returns-2 : tie.Need-returns-2
+returns-2 c =
+    let a = c .before .before .before .before .before .before .before .before .before .before .before .before .before .before .before .before .before .before .before .before .before .before .before .before .before .args in
+    let g = graphOf (given (c .before .before .before .before .before .before .before .before .before .before .before .before .before .before .before .before .before .before .before .before .before .before .before .before .before)) in
+    let e = found-full g (sound (c .before .before .before .before .before .before .before .before .before .before .before .before .before .before .before .before .before .before .before .before .before .before .before .before .before)) (a .x) (a .limit) (length (a .out .now) / 16) _ (ran (c .before .before .before .before .before .before .before .before .before .before .before .before .before)) (c .before .before .before .before .before .before .before .before .if1 .left) (eq-eqb _ 1 (c .before .before .before .before .before .before .before .if2 .taken)) in
+    let k = c .before .before .before .before .before .before .before .before .before .before .before .before .before .search .kept in
+    let y : length (a .lives .now) ≡ length (a .out .now) / 16 = omega (arith, c .before .before .before .before .before .before .before .before .before .before .before .before .before .before .before .before .before .before .before .before .before .before .before .before .before .pre .1 .2) in (
+      c .before .before .before .before .refuse2 .ensures .0 ∙ refused-answer g (a .x) _ 6 e,
+      (
+        c .before .before .before .before .refuse2 .ensures .1 ∙ ap blank (k .1 .1 .1 .1 .1 .1 .1 .1 .1 .1 .1 .1 .1 .1 .0) ∙ refused-output g (a .x) _ 6 e (length (a .out .now)),
+        c .before .before .before .before .refuse2 .ensures .2 ∙ ap blank (k .1 .1 .1 .1 .1 .1 .1 .1 .1 .1 .1 .1 .1 .1 .1 .0 ∙ y) ∙ refused-lives g (a .x) _ 6 e (length (a .out .now) / 16),
+      ),
+    )
+
+cast-found : tie.Need-cast-found
+cast-found c =
+    let a = c .before .before .before .before .before .before .before .before .before .before .before .before .before .before .before .before .before .before .args in
+    omega (arith, found-few (graphOf (given (c .before .before .before .before .before .before .before .before .before .before .before .before .before .before .before .before .before .before))) (sound (c .before .before .before .before .before .before .before .before .before .before .before .before .before .before .before .before .before .before)) (a .x) (a .limit) (length (a .out .now) / 16) _ (ran (c .before .before .before .before .before .before)) (c .before .if1 .left) (ne-eqb _ 1 (c .if2 .left)))
+
+cast-spent : tie.Need-cast-spent
+cast-spent c = search needs
+
+same-length-5 : tie.Need-same-length-5
+same-length-5 c = search needs
+
+same-length-6 : tie.Need-same-length-6
+same-length-6 c = search needs
+
 returns-3 : tie.Need-returns-3
 returns-3 c =
-    let a = c .before .before .before .before .before .before .before .before .before .before .before .before .before .before .args in
-    let g = graphOf (given (c .before .before .before .before .before .before .before .before .before .before .before .before .before .before)) in
-    let q : length (a .out .now) / 16 * 16 ≡ length (a .out .now) = omega (arith, c .before .before .before .before .before .before .before .before .before .before .before .before .before .before .pre .1 .0) in (
-      found-answer g (sound (c .before .before .before .before .before .before .before .before .before .before .before .before .before .before)) (a .x) (a .limit) (length (a .out .now) / 16) _ (ran (c .before .before .before .before)) (c .before .if1 .left) (ne-eqb _ 1 (c .if2 .left)),
-      found-output g (sound (c .before .before .before .before .before .before .before .before .before .before .before .before .before .before)) (a .x) (a .limit) (length (a .out .now) / 16) _ (ran (c .before .before .before .before)) (c .before .if1 .left) (ne-eqb _ 1 (c .if2 .left)) ∙ ap (outputOf g (a .x) _) q,
+    let a = c .before .before .before .before .before .before .before .before .before .before .before .before .before .before .before .before .before .before .args in
+    let g = graphOf (given (c .before .before .before .before .before .before .before .before .before .before .before .before .before .before .before .before .before .before)) in
+    let w = sound (c .before .before .before .before .before .before .before .before .before .before .before .before .before .before .before .before .before .before) in
+    let n = length (a .out .now) / 16 in
+    let q : n * 16 ≡ length (a .out .now) = omega (arith, c .before .before .before .before .before .before .before .before .before .before .before .before .before .before .before .before .before .before .pre .1 .0) in (
+      found-answer g w (a .x) (a .limit) n _ (ran (c .before .before .before .before .before .before)) (c .before .if1 .left) (ne-eqb _ 1 (c .if2 .left)),
+      (
+        found-output g w (a .x) (a .limit) n _ (ran (c .before .before .before .before .before .before)) (c .before .if1 .left) (ne-eqb _ 1 (c .if2 .left)) ∙ ap (outputOf g (a .x) _) q,
+        found-lives g w (a .x) (a .limit) n _ (ran (c .before .before .before .before .before .before)) (c .before .if1 .left) (ne-eqb _ 1 (c .if2 .left)),
+      ),
     )
 
 pub find-spec : {M : Type 1} → statement M
@@ -103,15 +129,16 @@ find-spec =
     search-requires
     array-read-count
     array-read-full
-    clear-requires
-    refused-requires
+    refuse-requires
     same-length
-    returns
-    clear-requires-2
-    refused-requires-2
     same-length-2
+    returns
+    refuse-requires-2
+    same-length-3
+    same-length-4
     returns-2
     cast-found
     cast-spent
-    same-length-3
+    same-length-5
+    same-length-6
     returns-3)
