@@ -30,10 +30,14 @@ unfolding valueOf
 value-small [] s = omega arith
 value-small (x ∷ xs) s = rw (pow-succ' 256 (length xs)) (digits-lt (s 0) (value-small xs (λ i. s (suc i))))
 
+-- the number that n octets of a longer list write
+pub value-within : (n : ℕ) (o : List ℕ) (at : ℕ) → at + n ≤ length o → Small o → valueOf (take n (drop at o)) < 256 ^ n
+value-within n o at h s =
+    let e : length (take n (drop at o)) ≡ n = omega (arith, length-take n (drop at o), length-drop at o) in
+    subst (λ (k : ℕ). valueOf (take n (drop at o)) < 256 ^ k) e (value-small (take n (drop at o)) (small-take n (drop at o) (small-drop at o s)))
+
 pub value-half : (o : List ℕ) (at : ℕ) → at + 8 ≤ length o → Small o → valueOf (take 8 (drop at o)) < 2 ^ 64
-value-half o at n s =
-    let e : length (take 8 (drop at o)) ≡ 8 = omega (arith, length-take 8 (drop at o), length-drop at o) in
-    subst (λ (k : ℕ). valueOf (take 8 (drop at o)) < 256 ^ k) e (value-small (take 8 (drop at o)) (small-take 8 (drop at o) (small-drop at o s)))
+value-half = value-within 8
 
 pub value-injective : (xs ys : List ℕ) → length xs ≡ length ys → Small xs → Small ys → valueOf xs ≡ valueOf ys → xs ≡ ys
 unfolding valueOf
@@ -77,11 +81,23 @@ value-octets (suc n) v =
     let e : 8 * suc n ≡ 8 + 8 * n = omega arith in
     rw (e, mod-pow-add v 8 (8 * n), octets-length n v, pow-octets n, value-octets n v)
 
+-- a number that its octets hold whole
+pub value-octets-all : (n v : ℕ) → v < 2 ^ (8 * n) → valueOf (octetsOf n v) ≡ v
+value-octets-all n v h = value-octets n v ∙ mod-eq-of-lt h
+
 pub octets-value : (xs : List ℕ) → Small xs → octetsOf (length xs) (valueOf xs) ≡ xs
 octets-value xs s =
     let n = length xs in
     value-injective (octetsOf n (valueOf xs)) xs (octets-length n (valueOf xs)) (octets-small n (valueOf xs)) s
     (value-octets n (valueOf xs) ∙ mod-eq-of-lt (rw (← pow-octets n) (value-small xs s)))
+
+-- the four octets of a number, one by one
+pub octets-four : (v : ℕ) → v < 2 ^ 32 → octetsOf 4 v ≡ v / 16777216 ∷ v / 65536 % 256 ∷ v / 256 % 256 ∷ v % 256 ∷ []
+unfolding octetsOf
+octets-four v h =
+    let a : v / 2 ^ 24 % 256 ≡ v / 16777216 = omega arith in
+    let d : v / 2 ^ 0 % 256 ≡ v % 256 = omega arith in
+    λ i. a i ∷ v / 65536 % 256 ∷ v / 256 % 256 ∷ d i ∷ []
 
 -- ---- numbers read from memory
 module _ (o : List ℕ) (at : ℕ) where

@@ -1,4 +1,4 @@
-// What only our own layers call: octets as numbers of 64 bits, and back; numbers as indices.
+// What only our own layers call: octets as numbers, and back; numbers as indices.
 ghost use mathlib.Core.Path.{_≡_};
 ghost use Prim.Native.Nat.{_+_, _*_, _^_, _≤_, _<_};
 ghost use lib.ListN.{length, take, drop};
@@ -14,12 +14,24 @@ fn octet(x: u8) -> u64
 }
 
 // Four octets as one number, the first the highest.
-fn quarter(octets: &[u8], at: usize) -> u64
+pub fn quarter(octets: &[u8], at: usize) -> u64
     requires { ⌜ at + 4 ≤ length (now octets) ⌝ }
     ensures { λ r. ⌜ (r ≡ valueOf (take 4 (drop at (now (octets .entry))))) × (r < 2 ^ 32) ⌝ }
 {
     ((octet(octets[at]) * 256 + octet(octets[at + 1])) * 256 + octet(octets[at + 2])) * 256
         + octet(octets[at + 3])
+}
+
+// The four octets of a number.
+pub fn quarter_octets(v: u32) -> [u8; 4]
+    ensures { λ r. ⌜ r ≡ octetsOf 4 v ⌝ }
+{
+    [
+        (v / 16777216) as u8,
+        (v / 65536 % 256) as u8,
+        (v / 256 % 256) as u8,
+        (v % 256) as u8,
+    ]
 }
 
 // Eight octets as one number.

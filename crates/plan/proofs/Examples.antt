@@ -1,11 +1,11 @@
 -- Tables checked, by computation. Assumes nothing.
-use Prim.Native.Nat.{ℕ}
+use Prim.Native.Nat.{ℕ, _+_, _-_, _*_}
 use mathlib.Core.Path.{_≡_, refl}
 use mathlib.Core.Bool.{true, false}
 use mathlib.Core.List.{List, [], _∷_, _++_, map}
 use lib.ListN.{take, drop, set, replicate}
 use Rattle.octets.specs.Octets.{blank, flat}
-use Rattle.plan.specs.Layout.{slotSize, addressSize, a6, dname, slotOf, recordOf, recordsOf}
+use Rattle.plan.specs.Layout.{recordSize, slotSize, addressSize, ttlPlace, a6, dname, ttlOf, slotOf, recordOf, recordsOf}
 use Rattle.plan.specs.Check.{faultOf, checkOf}
 use Rattle.plan.specs.Marks.{markOf, alikeOf}
 use Rattle.plan.specs.Part.{ownerPart}
@@ -52,31 +52,36 @@ filled : List ℕ
 unfolding ha blank
 filled = 5 ∷ ha ++ (blank 249 ++ (1 ∷ []))
 
+-- a record whose TTL is an hour
+made : ℕ → ℕ → List ℕ → List ℕ → List ℕ → List ℕ
+unfolding recordOf
+made type prefix address owner target = recordOf type prefix address owner target 3600
+
 h64 : List ℕ
-unfolding recordOf slotOf ha pa seven
-h64 = recordOf a6 64 seven (slotOf ha) (slotOf pa)
+unfolding made slotOf ha pa seven
+h64 = made a6 64 seven (slotOf ha) (slotOf pa)
 
 p0 : List ℕ
-unfolding recordOf slotOf pa five none
-p0 = recordOf a6 0 five (slotOf pa) none
+unfolding made slotOf pa five none
+p0 = made a6 0 five (slotOf pa) none
 
 alias : List ℕ → List ℕ → List ℕ
-unfolding recordOf slotOf zeros
-alias owner target = recordOf dname 0 zeros (slotOf owner) (slotOf target)
+unfolding made slotOf zeros
+alias owner target = made dname 0 zeros (slotOf owner) (slotOf target)
 
 -- no fault
 faults-none : map faultOf (
-    h64 ∷ p0 ∷ alias ha pa ∷ alias root root ∷ recordOf a6 128 zeros (slotOf ha) (slotOf root) ∷ [])
+    h64 ∷ p0 ∷ alias ha pa ∷ alias root root ∷ made a6 128 zeros (slotOf ha) (slotOf root) ∷ [])
     ≡ 0 ∷ 0 ∷ 0 ∷ 0 ∷ 0 ∷ []
-unfolding faultOf h64 p0 alias recordOf slotOf ha pa root zeros
+unfolding faultOf h64 p0 alias made slotOf ha pa root zeros
 faults-none = refl
 
-faults-type : map faultOf (recordOf 40 0 five (slotOf pa) none ∷ recordOf 12 0 zeros (slotOf pa) (slotOf ha) ∷ set h64 0 1 ∷ blank 532 ∷ []) ≡ 1 ∷ 1 ∷ 1 ∷ 1 ∷ []
-unfolding faultOf h64 recordOf slotOf ha pa five zeros none blank
+faults-type : map faultOf (made 40 0 five (slotOf pa) none ∷ made 12 0 zeros (slotOf pa) (slotOf ha) ∷ set h64 0 1 ∷ blank recordSize ∷ []) ≡ 1 ∷ 1 ∷ 1 ∷ 1 ∷ []
+unfolding faultOf h64 made slotOf ha pa five zeros none blank
 faults-type = refl
 
-faults-prefix : map faultOf (recordOf a6 129 zeros (slotOf ha) (slotOf pa) ∷ recordOf dname 1 zeros (slotOf ha) (slotOf pa) ∷ []) ≡ 2 ∷ 2 ∷ []
-unfolding faultOf recordOf slotOf ha pa zeros
+faults-prefix : map faultOf (made a6 129 zeros (slotOf ha) (slotOf pa) ∷ made dname 1 zeros (slotOf ha) (slotOf pa) ∷ []) ≡ 2 ∷ 2 ∷ []
+unfolding faultOf made slotOf ha pa zeros
 faults-prefix = refl
 
 faults-zero : map faultOf (set h64 3 1 ∷ set (alias ha pa) 3 128 ∷ []) ≡ 3 ∷ 3 ∷ []
@@ -85,27 +90,40 @@ faults-zero = refl
 
 -- bits among the first L, and any bit for DNAME; the bit just after the first L is free
 faults-address : map faultOf (
-    recordOf a6 128 seven (slotOf ha) (slotOf pa) ∷ recordOf a6 126 seven (slotOf ha) (slotOf pa) ∷ recordOf a6 125 seven (slotOf ha) (slotOf pa)
-    ∷ recordOf a6 3 five (slotOf ha) (slotOf pa) ∷ recordOf a6 2 five (slotOf ha) (slotOf pa) ∷ recordOf dname 0 seven (slotOf ha) (slotOf pa) ∷ [])
+    made a6 128 seven (slotOf ha) (slotOf pa) ∷ made a6 126 seven (slotOf ha) (slotOf pa) ∷ made a6 125 seven (slotOf ha) (slotOf pa)
+    ∷ made a6 3 five (slotOf ha) (slotOf pa) ∷ made a6 2 five (slotOf ha) (slotOf pa) ∷ made dname 0 seven (slotOf ha) (slotOf pa) ∷ [])
     ≡ 4 ∷ 4 ∷ 0 ∷ 4 ∷ 0 ∷ 4 ∷ []
-unfolding faultOf recordOf slotOf ha pa seven five
+unfolding faultOf made slotOf ha pa seven five
 faults-address = refl
 
 faults-owner : map faultOf (
-    recordOf a6 0 five none none ∷ recordOf a6 0 five (slotOf adjacent) none ∷ recordOf a6 0 five (slotOf short) none
-    ∷ recordOf a6 0 five loose none ∷ recordOf a6 0 five filled none ∷ recordOf dname 0 zeros filled (slotOf pa) ∷ [])
+    made a6 0 five none none ∷ made a6 0 five (slotOf adjacent) none ∷ made a6 0 five (slotOf short) none
+    ∷ made a6 0 five loose none ∷ made a6 0 five filled none ∷ made dname 0 zeros filled (slotOf pa) ∷ [])
     ≡ 5 ∷ 5 ∷ 5 ∷ 5 ∷ 5 ∷ 5 ∷ []
-unfolding faultOf recordOf slotOf adjacent short loose filled zeros five none pa
+unfolding faultOf made slotOf adjacent short loose filled zeros five none pa
 faults-owner = refl
 
 -- the root is a target, and no target is not the root
 faults-target : map faultOf (
-    recordOf a6 0 five (slotOf ha) (slotOf root) ∷ recordOf a6 0 five (slotOf ha) (slotOf pa) ∷ recordOf a6 64 seven (slotOf ha) none
-    ∷ recordOf dname 0 zeros (slotOf ha) none ∷ recordOf a6 64 seven (slotOf ha) filled ∷ recordOf a6 64 seven (slotOf ha) (slotOf adjacent)
-    ∷ recordOf a6 64 seven (slotOf ha) (slotOf root) ∷ [])
+    made a6 0 five (slotOf ha) (slotOf root) ∷ made a6 0 five (slotOf ha) (slotOf pa) ∷ made a6 64 seven (slotOf ha) none
+    ∷ made dname 0 zeros (slotOf ha) none ∷ made a6 64 seven (slotOf ha) filled ∷ made a6 64 seven (slotOf ha) (slotOf adjacent)
+    ∷ made a6 64 seven (slotOf ha) (slotOf root) ∷ [])
     ≡ 6 ∷ 6 ∷ 6 ∷ 6 ∷ 6 ∷ 6 ∷ 0 ∷ []
-unfolding faultOf recordOf slotOf ha pa root adjacent filled zeros five seven none
+unfolding faultOf made slotOf ha pa root adjacent filled zeros five seven none
 faults-target = refl
+
+-- the greatest TTL is free of fault, the next one and the greatest that four octets write are not; a fault before it comes first
+faults-ttl : map faultOf (
+    recordOf a6 0 five (slotOf pa) none 0 ∷ recordOf a6 0 five (slotOf pa) none 2147483647 ∷ recordOf a6 0 five (slotOf pa) none 2147483648
+    ∷ recordOf a6 0 five (slotOf pa) none 4294967295 ∷ recordOf dname 0 zeros (slotOf ha) (slotOf pa) 2147483648 ∷ recordOf a6 0 five (slotOf pa) (slotOf pa) 2147483648 ∷ [])
+    ≡ 0 ∷ 0 ∷ 7 ∷ 7 ∷ 7 ∷ 6 ∷ []
+unfolding faultOf recordOf slotOf ha pa zeros five none
+faults-ttl = refl
+
+-- the high octet of a TTL stands first
+ttl-order : ttlOf (set p0 ttlPlace 1) ∷ ttlOf p0 ∷ ttlOf (set p0 (recordSize - 1) 17) ∷ [] ≡ 16780816 ∷ 3600 ∷ 3601 ∷ []
+unfolding ttlOf p0
+ttl-order = refl
 
 good : List ℕ
 unfolding flat h64 p0 alias
@@ -113,7 +131,7 @@ good = flat (h64 ∷ p0 ∷ p0 ∷ alias pa ha ∷ alias ha ha ∷ [])
 
 -- no records, some, a length that is no multiple, a fault before and after two DNAMEs with one owner, those two alone
 checks : map checkOf (
-    [] ∷ good ∷ drop 1 good ∷ (good ++ (0 ∷ [])) ∷ take 531 good ∷ flat (alias ha pa ∷ h64 ∷ alias ha ha ∷ set p0 3 1 ∷ [])
+    [] ∷ good ∷ drop 1 good ∷ (good ++ (0 ∷ [])) ∷ take (recordSize - 1) good ∷ flat (alias ha pa ∷ h64 ∷ alias ha ha ∷ set p0 3 1 ∷ [])
     ∷ flat (set p0 3 1 ∷ alias ha pa ∷ alias ha ha ∷ []) ∷ flat (alias ha pa ∷ h64 ∷ alias ha ha ∷ []) ∷ flat (alias pa pa ∷ alias ha pa ∷ alias pa pa ∷ []) ∷ [])
     ≡ 0 ∷ 0 ∷ 1 ∷ 1 ∷ 1 ∷ 2 ∷ 2 ∷ 3 ∷ 3 ∷ []
 unfolding checkOf flat good h64 p0 alias ha pa
@@ -126,7 +144,7 @@ records = refl
 
 -- the owner part: of each kind of record, past the last record, and of a table that earns 3
 parts : ownerPart good 0 ∷ ownerPart good 3 ∷ ownerPart good 5 ∷ ownerPart (flat (alias ha pa ∷ alias ha ha ∷ [])) 0 ∷ []
-    ≡ record { offset = 21; length = 5 } ∷ record { offset = 1617; length = 5 } ∷ record { offset = 0; length = 0 } ∷ record { offset = 0; length = 0 } ∷ []
+    ≡ record { offset = 21; length = 5 } ∷ record { offset = 3 * recordSize + 21; length = 5 } ∷ record { offset = 0; length = 0 } ∷ record { offset = 0; length = 0 } ∷ []
 unfolding ownerPart flat good h64 p0 alias ha pa
 parts = refl
 

@@ -1,5 +1,5 @@
 -- Laws of a record's faults: the fields in their order, and what a record without a fault is like. Assumes nothing.
-use Prim.Native.Nat.{ℕ}
+use Prim.Native.Nat.{ℕ, _≤_}
 use mathlib.Core.Path.{_≡_, refl, ap, _∙_, sym}
 use mathlib.Core.Bool.{Bool, true, false, not}
 use mathlib.Core.List.{List}
@@ -13,9 +13,10 @@ use Rattle.octets.specs.Octets.{blank, same}
 use Rattle.octets.proofs.SameLaws.{same-eq, same-refl}
 use Rattle.names.specs.Standard.{inStandardForm}
 use Rattle.address.specs.Address.{clearTo}
+use Rattle.chains.specs.Graph.{maxTtl}
 use Rattle.address.proofs.ClearLaws.{clear-zero}
-use Rattle.plan.specs.Layout.{slotSize, a6, dname, typeOf, prefixOf, zeroOf, addressOf, ownerSlot, targetSlot, nameIn, slotOf, isA6, isDname}
-use Rattle.plan.specs.Check.{slotGood, slotEmpty, typeGood, prefixGood, addressGood, targetless, targetGood, faultOf}
+use Rattle.plan.specs.Layout.{slotSize, a6, dname, typeOf, prefixOf, zeroOf, addressOf, ownerSlot, targetSlot, ttlOf, nameIn, slotOf, isA6, isDname}
+use Rattle.plan.specs.Check.{slotGood, slotEmpty, typeGood, prefixGood, addressGood, targetless, targetGood, ttlGood, faultOf}
 use Rattle.plan.specs.Good.{Holds, Good}
 
 -- the first field at fault
@@ -44,9 +45,15 @@ module _ (r : List ℕ) where
   unfolding faultOf
   fault-target a b c d e f = rw (a, b, eq-eqb (zeroOf r) 0 c, d, e, f)
 
-  pub fault-none : typeGood r ≡ true → prefixGood r ≡ true → zeroOf r ≡ 0 → addressGood r ≡ true → slotGood (ownerSlot r) ≡ true → targetGood r ≡ true → faultOf r ≡ 0
+  pub fault-ttl : typeGood r ≡ true → prefixGood r ≡ true → zeroOf r ≡ 0 → addressGood r ≡ true → slotGood (ownerSlot r) ≡ true → targetGood r ≡ true → ttlGood r ≡ false
+      → faultOf r ≡ 7
   unfolding faultOf
-  fault-none a b c d e f = rw (a, b, eq-eqb (zeroOf r) 0 c, d, e, f)
+  fault-ttl a b c d e f g = rw (a, b, eq-eqb (zeroOf r) 0 c, d, e, f, g)
+
+  pub fault-none : typeGood r ≡ true → prefixGood r ≡ true → zeroOf r ≡ 0 → addressGood r ≡ true → slotGood (ownerSlot r) ≡ true → targetGood r ≡ true → ttlGood r ≡ true
+      → faultOf r ≡ 0
+  unfolding faultOf
+  fault-none a b c d e f g = rw (a, b, eq-eqb (zeroOf r) 0 c, d, e, f, g)
 
 -- the tests of the fields, by the type
 module _ (r : List ℕ) where
@@ -117,6 +124,14 @@ module _ (r : List ℕ) where
   unfolding targetGood
   target-some h = rw (targetGood, h)
 
+  pub ttl-lived : ttlGood r ≡ true → ttlOf r ≤ maxTtl
+  unfolding ttlGood
+  ttl-lived h = leb-true (ttlOf r) maxTtl h
+
+  pub lived-ttl : ttlOf r ≤ maxTtl → ttlGood r ≡ true
+  unfolding ttlGood
+  lived-ttl h = le-leb (ttlOf r) maxTtl h
+
 -- a good slot holds its name, and a slot that holds its name is good
 pub slot-holds : (s : List ℕ) → slotGood s ≡ true → Holds s
 unfolding slotGood
@@ -146,6 +161,7 @@ record Passes (r : List ℕ) : Type 0 where
   address : addressGood r ≡ true
   owner : slotGood (ownerSlot r) ≡ true
   target : targetGood r ≡ true
+  ttl : ttlGood r ≡ true
 
 passes : (r : List ℕ) → faultOf r ≡ 0 → Passes r
 unfolding faultOf
@@ -156,6 +172,7 @@ passes r h =
     let d = earns-zero (not (addressGood r)) 3 _ (c .1) in
     let e = earns-zero (not (slotGood (ownerSlot r))) 4 _ (d .1) in
     let f = earns-zero (not (targetGood r)) 5 _ (e .1) in
+    let g = earns-zero (not (ttlGood r)) 6 _ (f .1) in
     record {
       kind = not-false (typeGood r) (a .0);
       prefix = not-false (prefixGood r) (b .0);
@@ -163,6 +180,7 @@ passes r h =
       address = not-false (addressGood r) (d .0);
       owner = not-false (slotGood (ownerSlot r)) (e .0);
       target = not-false (targetGood r) (f .0);
+      ttl = not-false (ttlGood r) (g .0);
     }
 
 -- a record is without a fault exactly when its fields are as the layout says
@@ -178,6 +196,9 @@ fault-good r h = by-type (eqb (typeOf r) a6) refl
     none : targetless r ≡ true → targetSlot r ≡ blank slotSize
     none e = empty-eq (targetSlot r) (sym (target-none r e) ∙ w .target)
 
+    lived : ttlOf r ≤ maxTtl
+    lived = ttl-lived r (w .ttl)
+
     by-type : (t : Bool) → eqb (typeOf r) a6 ≡ t → Good r
     by-type true e =
         let k = eqb-true (typeOf r) a6 e in
@@ -190,6 +211,7 @@ fault-good r h = by-type (eqb (typeOf r) a6) refl
           bare = λ d. let z : ⊥ = omega arith in absurd z;
           target = target;
           none = none;
+          lived = lived;
         }
     by-type false e =
         let k : typeOf r ≡ a6 → ⊥ = eqb-false (typeOf r) a6 e in
@@ -205,6 +227,7 @@ fault-good r h = by-type (eqb (typeOf r) a6) refl
           bare = λ _. (l, c);
           target = target;
           none = none;
+          lived = lived;
         }
 
 pub good-fault : (r : List ℕ) → Good r → faultOf r ≡ 0
@@ -217,9 +240,9 @@ good-fault r g = by-type (g .kind)
     by-type : (typeOf r ≡ a6) ⊎ (typeOf r ≡ dname) → faultOf r ≡ 0
     by-type (inl k) =
         fault-none r (type-a6 r k) (prefix-a6 r k ∙ le-leb (prefixOf r) 128 (g .prefix)) (g .nought) (address-a6 r k ∙ g .clear)
-        (holds-slot (ownerSlot r) (g .owner)) (target (targetless r) refl)
+        (holds-slot (ownerSlot r) (g .owner)) (target (targetless r) refl) (lived-ttl r (g .lived))
     by-type (inr d) =
         let k : typeOf r ≡ a6 → ⊥ = λ e. omega arith in
         let b = g .bare d in
         fault-none r (type-other r k ∙ eq-eqb (typeOf r) dname d) (prefix-other r k ∙ eq-eqb (prefixOf r) 0 (b .0)) (g .nought) (address-other r k ∙ b .1)
-        (holds-slot (ownerSlot r) (g .owner)) (target (targetless r) refl)
+        (holds-slot (ownerSlot r) (g .owner)) (target (targetless r) refl) (lived-ttl r (g .lived))

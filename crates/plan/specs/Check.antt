@@ -1,4 +1,4 @@
--- The check of a table (01, The plan table; What comes back, 1 to 3). Assumes nothing.
+-- The check of a table (01, The plan table; What comes back, 1 to 3; T-01). Assumes nothing.
 use Prim.Native.Nat.{ℕ, _%_}
 use mathlib.Core.Path.{_≡_}
 use mathlib.Core.Bool.{Bool, true, false, not, _&&_, _||_}
@@ -10,8 +10,9 @@ use Rattle.octets.specs.Answers.{earns}
 use Rattle.octets.specs.declared.Answer.{Answer}
 use Rattle.names.specs.Standard.{sameName, inStandardForm}
 use Rattle.address.specs.Address.{clearTo}
+use Rattle.chains.specs.Graph.{maxTtl}
 use Rattle.plan.specs.First.{firstFrom, first, some}
-use Rattle.plan.specs.Layout.{recordSize, maxRecords, slotSize, prefixOf, zeroOf, addressOf, ownerSlot, targetSlot, nameIn, slotOf, isA6, isDname, countOf, recordAt, ownerAt}
+use Rattle.plan.specs.Layout.{recordSize, maxRecords, slotSize, prefixOf, zeroOf, addressOf, ownerSlot, targetSlot, ttlOf, nameIn, slotOf, isA6, isDname, countOf, recordAt, ownerAt}
 
 -- the slot holds a name in standard form that fills the length, and zeros after it
 unfoldable pub slotGood : List ℕ → Bool
@@ -45,9 +46,13 @@ unfoldable pub targetGood : List ℕ → Bool
 unfolding targetless targetSlot slotEmpty slotGood
 targetGood r = elim (targetless r) [ true ↦ slotEmpty (targetSlot r) | false ↦ slotGood (targetSlot r) ]
 
--- the first field at fault: 1 type, 2 prefix length, 3 zero octet, 4 address, 5 owner, 6 target; 0 where none is
+unfoldable pub ttlGood : List ℕ → Bool
+unfolding ttlOf
+ttlGood r = leb (ttlOf r) maxTtl
+
+-- the first field at fault: 1 type, 2 prefix length, 3 zero octet, 4 address, 5 owner, 6 target, 7 TTL; 0 where none is
 unfoldable pub faultOf : List ℕ → ℕ
-unfolding typeGood prefixGood zeroOf addressGood slotGood ownerSlot targetGood
+unfolding typeGood prefixGood zeroOf addressGood slotGood ownerSlot targetGood ttlGood
 faultOf r =
     earns (not (typeGood r)) 1
     (earns (not (prefixGood r)) 2
@@ -55,7 +60,8 @@ faultOf r =
     (earns (not (addressGood r)) 4
     (earns (not (slotGood (ownerSlot r))) 5
     (earns (not (targetGood r)) 6
-    0)))))
+    (earns (not (ttlGood r)) 7
+    0))))))
 
 -- record i has a field at fault
 unfoldable pub faulty : List ℕ → ℕ → Bool

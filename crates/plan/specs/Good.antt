@@ -1,4 +1,4 @@
--- What a record with no field at fault is like, said field by field (01, The plan table). Assumes nothing.
+-- What a record with no field at fault is like, said field by field (01, The plan table; T-01). Assumes nothing.
 use Prim.Native.Nat.{ℕ, _≤_}
 use mathlib.Core.Path.{_≡_}
 use mathlib.Core.Bool.{true, false}
@@ -7,7 +7,8 @@ use mathlib.Core.Logic.{_⊎_}
 use Rattle.octets.specs.Octets.{blank}
 use Rattle.names.specs.Standard.{inStandardForm}
 use Rattle.address.specs.Address.{clearTo}
-use Rattle.plan.specs.Layout.{slotSize, a6, dname, typeOf, prefixOf, zeroOf, addressOf, ownerSlot, targetSlot, nameIn, slotOf}
+use Rattle.chains.specs.Graph.{maxTtl}
+use Rattle.plan.specs.Layout.{slotSize, a6, dname, typeOf, prefixOf, zeroOf, addressOf, ownerSlot, targetSlot, ttlOf, nameIn, slotOf}
 use Rattle.plan.specs.Check.{targetless}
 
 -- the slot holds a name in standard form, and zeros after it
@@ -25,3 +26,4 @@ pub record Good (r : List ℕ) : Type 0 where
   pub bare : typeOf r ≡ dname → (prefixOf r ≡ 0) × (clearTo 128 (addressOf r) ≡ true)
   pub target : targetless r ≡ false → Holds (targetSlot r)
   pub none : targetless r ≡ true → targetSlot r ≡ blank slotSize
+  pub lived : ttlOf r ≤ maxTtl

@@ -1,14 +1,15 @@
--- The plan table (01, the section of that name): its layout, in this place alone. Assumes nothing.
+-- The plan table (01, the section of that name; T-01): its layout, in this place alone. Assumes nothing.
 use Prim.Native.Nat.{ℕ, zero, suc, _+_, _-_, _*_, _/_, _%_}
 use mathlib.Core.Bool.{Bool}
 use mathlib.Core.List.{List, [], _∷_, _++_}
 use lib.Dec.{eqb}
 use lib.ListN.{length, getD, take, drop}
 use Rattle.octets.specs.Octets.{blank}
+use Rattle.octets.specs.Numbers.{valueOf, octetsOf}
 
--- the octets of a record, the most records of a table, the octets of an address, and those of a slot: a length octet and the most that a name has
+-- the octets of a record, the most records of a table, the octets of an address, those of a slot (a length octet and the most that a name has), and those of a TTL
 abbrev pub recordSize : ℕ
-recordSize = 532
+recordSize = 536
 
 abbrev pub maxRecords : ℕ
 maxRecords = 1024
@@ -22,6 +23,9 @@ nameRoom = 255
 abbrev pub slotSize : ℕ
 slotSize = 256
 
+abbrev pub ttlSize : ℕ
+ttlSize = 4
+
 -- where the longer fields of a record stand
 abbrev pub addressPlace : ℕ
 addressPlace = 4
@@ -31,6 +35,9 @@ ownerPlace = 20
 
 abbrev pub targetPlace : ℕ
 targetPlace = 276
+
+abbrev pub ttlPlace : ℕ
+ttlPlace = 532
 
 -- the types
 abbrev pub a6 : ℕ
@@ -58,6 +65,10 @@ ownerSlot r = take slotSize (drop ownerPlace r)
 unfoldable pub targetSlot : List ℕ → List ℕ
 targetSlot r = take slotSize (drop targetPlace r)
 
+unfoldable pub ttlOf : List ℕ → ℕ
+unfolding valueOf
+ttlOf r = valueOf (take ttlSize (drop ttlPlace r))
+
 -- the octets of a slot that its length octet says are the name
 unfoldable pub nameIn : List ℕ → List ℕ
 nameIn s = take (getD s 0 0) (drop 1 s)
@@ -82,8 +93,9 @@ abbrev pub targetOf : List ℕ → List ℕ
 targetOf r = nameIn (targetSlot r)
 
 -- a record made of its fields
-unfoldable pub recordOf : ℕ → ℕ → List ℕ → List ℕ → List ℕ → List ℕ
-recordOf type prefix address owner target = type / 256 ∷ type % 256 ∷ prefix ∷ 0 ∷ (address ++ owner ++ target)
+unfoldable pub recordOf : ℕ → ℕ → List ℕ → List ℕ → List ℕ → ℕ → List ℕ
+unfolding octetsOf
+recordOf type prefix address owner target ttl = type / 256 ∷ type % 256 ∷ prefix ∷ 0 ∷ (address ++ owner ++ target ++ octetsOf ttlSize ttl)
 
 -- how many records a table has, and the one at an index
 unfoldable pub countOf : List ℕ → ℕ
@@ -107,6 +119,9 @@ ownerAt t i = ownerOf (recordAt t i)
 
 abbrev pub targetAt : List ℕ → ℕ → List ℕ
 targetAt t i = targetOf (recordAt t i)
+
+abbrev pub ttlAt : List ℕ → ℕ → ℕ
+ttlAt t i = ttlOf (recordAt t i)
 
 -- the first n records of a table
 unfoldable pub firstRecords : ℕ → List ℕ → List (List ℕ)

@@ -5,14 +5,14 @@ ghost use Prim.Native.Nat.{_+_, _^_, _≤_, _<_};
 ghost use lib.ListN.{length, getD};
 ghost use lib.Seq.{paste};
 ghost use Rattle.names.specs.Standard.{sameName, inStandardForm};
-ghost use Rattle.plan.specs.Layout.{recordSize, nameRoom, slotSize, a6, typeOf, prefixOf, zeroOf, addressOf, ownerSlot, targetSlot, nameIn, slotOf, recordOf, countOf, recordAt, typeAt, prefixAt, addressAt, ownerAt, targetAt};
+ghost use Rattle.plan.specs.Layout.{recordSize, nameRoom, slotSize, a6, typeOf, prefixOf, zeroOf, addressOf, ownerSlot, targetSlot, ttlOf, nameIn, slotOf, recordOf, countOf, recordAt, typeAt, prefixAt, addressAt, ownerAt, targetAt, ttlAt};
 ghost use Rattle.plan.specs.Check.{targetless};
 ghost use Rattle.plan.specs.Marks.{wordAt, pairAt, termAt, sumTo, sumOf, markOf, alikeOf};
 ghost use Rattle.plan.specs.Part.{ownerWithin};
 use crate::Part;
 
-// The octets of a record (01, The plan table).
-pub const RECORD: usize = 532;
+// The octets of a record (01, The plan table; T-01).
+pub const RECORD: usize = 536;
 
 // Where the longer fields of a record stand.
 const ADDRESS: usize = 4;
@@ -20,6 +20,8 @@ const ADDRESS: usize = 4;
 const OWNER: usize = 20;
 
 const TARGET: usize = 276;
+
+const TTL: usize = 532;
 
 // The types.
 pub const A6: u16 = 38;
@@ -97,6 +99,14 @@ pub fn target(table: &[u8], index: usize) -> &[u8]
     name_in(target_slot(row(table, index)))
 }
 
+// Its TTL.
+pub fn ttl(table: &[u8], index: usize) -> u32
+    requires { ⌜ index < countOf (now table) ⌝ }
+    ensures { λ r. ⌜ r ≡ ttlAt (now (table .entry)) index ⌝ }
+{
+    ttl_of(row(table, index))
+}
+
 // The fields of a record, of its octets.
 pub fn kind_of(row: &[u8]) -> u16
     requires { ⌜ length (now row) ≡ recordSize ⌝ }
@@ -137,7 +147,14 @@ pub fn target_slot(row: &[u8]) -> &[u8]
     requires { ⌜ length (now row) ≡ recordSize ⌝ }
     ensures { λ r. ⌜ (now r ≡ targetSlot (now (row .entry))) × (length (now r) ≡ slotSize) ⌝ }
 {
-    &row[TARGET..RECORD]
+    &row[TARGET..TTL]
+}
+
+pub fn ttl_of(row: &[u8]) -> u32
+    requires { ⌜ length (now row) ≡ recordSize ⌝ }
+    ensures { λ r. ⌜ r ≡ ttlOf (now (row .entry)) ⌝ }
+{
+    octets::numbers::quarter(row, TTL) as u32
 }
 
 // Whether a record leads to no name: an A6 record with prefix length 0.
@@ -173,13 +190,14 @@ pub fn write_a6(
     address: [u8; 16],
     owner: &[u8],
     target: &[u8],
+    ttl: u32,
     out: &mut [u8],
     to: usize,
 )
     requires { ⌜ (length (now owner) ≡ slotSize) × (length (now target) ≡ slotSize) × (to + recordSize ≤ length (now out)) ⌝ }
-    ensures { λ _. ⌜ now (out .exit) ≡ paste (now (out .entry)) to (recordOf a6 prefix address (now (owner .entry)) (now (target .entry))) recordSize ⌝ }
+    ensures { λ _. ⌜ now (out .exit) ≡ paste (now (out .entry)) to (recordOf a6 prefix address (now (owner .entry)) (now (target .entry)) ttl) recordSize ⌝ }
 {
-    write_record(A6, prefix, address, owner, target, out, to);
+    write_record(A6, prefix, address, owner, target, ttl, out, to);
 }
 
 // A record of any type, of its fields, the names as slots, at a place of the output.
@@ -189,17 +207,20 @@ pub fn write_record(
     address: [u8; 16],
     owner: &[u8],
     target: &[u8],
+    ttl: u32,
     out: &mut [u8],
     to: usize,
 )
     requires { ⌜ (length (now owner) ≡ slotSize) × (length (now target) ≡ slotSize) × (to + recordSize ≤ length (now out)) ⌝ }
-    ensures { λ _. ⌜ now (out .exit) ≡ paste (now (out .entry)) to (recordOf kind prefix address (now (owner .entry)) (now (target .entry))) recordSize ⌝ }
+    ensures { λ _. ⌜ now (out .exit) ≡ paste (now (out .entry)) to (recordOf kind prefix address (now (owner .entry)) (now (target .entry)) ttl) recordSize ⌝ }
 {
     let head = [(kind / 256) as u8, (kind % 256) as u8, prefix, 0u8];
     octets::inside::copy(&head, 0, 4, out, to);
     octets::inside::copy(&address, 0, 16, out, to + ADDRESS);
     octets::inside::copy(owner, 0, 256, out, to + OWNER);
     octets::inside::copy(target, 0, 256, out, to + TARGET);
+    let life = octets::numbers::quarter_octets(ttl);
+    octets::inside::copy(&life, 0, 4, out, to + TTL);
 }
 
 // The slot of a name.

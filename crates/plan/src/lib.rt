@@ -1,16 +1,19 @@
-// The plan table: its layout, its check and the owner part (01, The plan table).
+// The plan table: its layout, its check and the owner part (01, The plan table; T-01).
 ghost use mathlib.Core.Path.{_≡_};
 ghost use mathlib.Core.Bool.{true};
 ghost use Prim.Native.Nat.{_≤_, _<_};
 ghost use lib.ListN.{length};
 ghost use Rattle.plan.specs.First.{some};
 ghost use Rattle.plan.specs.Layout.{recordSize, maxRecords, slotSize, isDname, countOf, recordAt};
-ghost use Rattle.plan.specs.Check.{slotGood, typeGood, prefixGood, addressGood, targetGood, faultOf, firstFault, twin, repeats, firstRepeat, checkAnswer};
+ghost use Rattle.plan.specs.Check.{slotGood, typeGood, prefixGood, addressGood, targetGood, ttlGood, faultOf, firstFault, twin, repeats, firstRepeat, checkAnswer};
 ghost use Rattle.plan.specs.Marks.{markAt, Ready, among};
 ghost use Rattle.plan.specs.Part.{IsPart, emptyPart, ownerPart};
 
 // The most records of a table (01, The plan table).
 const MAX_RECORDS: usize = 1024;
+
+// The greatest TTL (T-01).
+const MAX_TTL: u32 = 2147483647;
 
 // A part of a table: where it starts and how many octets it has.
 pub struct Part {
@@ -115,6 +118,9 @@ fn fault(row: &[u8]) -> u8
     if !target_good(row) {
         return 6;
     }
+    if !ttl_good(row) {
+        return 7;
+    }
     0
 }
 
@@ -163,6 +169,14 @@ fn target_good(row: &[u8]) -> bool
         return octets::zeros::is_blank(slot, 0);
     }
     slot_good(slot)
+}
+
+// The TTL: at most the greatest.
+fn ttl_good(row: &[u8]) -> bool
+    requires { ⌜ length (now row) ≡ recordSize ⌝ }
+    ensures { λ r. ⌜ r ≡ ttlGood (now (row .entry)) ⌝ }
+{
+    inside::ttl_of(row) <= MAX_TTL
 }
 
 // Whether a slot holds a name in standard form that fills its length, and zeros after it.

@@ -2,7 +2,7 @@
 use mathlib.Core.Path.{ap, _∙_, sym}
 use borrow.Author.Tests.{not-true, not-false}
 use Rattle.plan.specs.Check.{slotGood}
-use Rattle.plan.proofs.FaultLaws.{fault-type, fault-prefix, fault-zero, fault-address, fault-owner, fault-target, fault-none}
+use Rattle.plan.proofs.FaultLaws.{fault-type, fault-prefix, fault-zero, fault-address, fault-owner, fault-target, fault-ttl, fault-none}
 use borrow.Author.Needs.{needs}
 use Rattle.plan.proofs.fault.Statement.{statement}
 use Rattle.plan.proofs.fault.Tie as tie
@@ -79,16 +79,32 @@ returns-6 c =
     (sym (c .before .before .before .slot-good .ensures ∙ ap slotGood (c .before .before .before .before .owner-slot .ensures .0)) ∙ not-false (c .before .before .before .slot-good .result) (c .before .before .if5 .left))
     (sym (c .before .target-good .ensures) ∙ not-true (c .before .target-good .result) (c .if6 .taken)))
 
+ttl-good-requires : tie.Need-ttl-good-requires
+ttl-good-requires c κs = search needs
+
 returns-7 : tie.Need-returns-7
 returns-7 c =
-    let r = c .before .before .before .before .before .before .before .before .before .before .before .before .before .before .args .row .now in
+    let r = c .before .before .before .before .before .before .before .before .before .before .before .before .before .before .before .before .args .row .now in
+    sym (fault-ttl r
+    (sym (c .before .before .before .before .before .before .before .before .before .before .before .before .before .before .type-good .ensures) ∙ not-false (c .before .before .before .before .before .before .before .before .before .before .before .before .before .before .type-good .result) (c .before .before .before .before .before .before .before .before .before .before .before .before .before .if1 .left))
+    (sym (c .before .before .before .before .before .before .before .before .before .before .before .before .prefix-good .ensures) ∙ not-false (c .before .before .before .before .before .before .before .before .before .before .before .before .prefix-good .result) (c .before .before .before .before .before .before .before .before .before .before .before .if2 .left))
+    (sym (c .before .before .before .before .before .before .before .before .before .before .zero-of .ensures) ∙ c .before .before .before .before .before .before .before .before .before .if3 .left)
+    (sym (c .before .before .before .before .before .before .before .before .address-good .ensures) ∙ not-false (c .before .before .before .before .before .before .before .before .address-good .result) (c .before .before .before .before .before .before .before .if4 .left))
+    (sym (c .before .before .before .before .before .slot-good .ensures ∙ ap slotGood (c .before .before .before .before .before .before .owner-slot .ensures .0)) ∙ not-false (c .before .before .before .before .before .slot-good .result) (c .before .before .before .before .if5 .left))
+    (sym (c .before .before .before .target-good .ensures) ∙ not-false (c .before .before .before .target-good .result) (c .before .before .if6 .left))
+    (sym (c .before .ttl-good .ensures) ∙ not-true (c .before .ttl-good .result) (c .if7 .taken)))
+
+returns-8 : tie.Need-returns-8
+returns-8 c =
+    let r = c .before .before .before .before .before .before .before .before .before .before .before .before .before .before .before .before .args .row .now in
     sym (fault-none r
-    (sym (c .before .before .before .before .before .before .before .before .before .before .before .before .type-good .ensures) ∙ not-false (c .before .before .before .before .before .before .before .before .before .before .before .before .type-good .result) (c .before .before .before .before .before .before .before .before .before .before .before .if1 .left))
-    (sym (c .before .before .before .before .before .before .before .before .before .before .prefix-good .ensures) ∙ not-false (c .before .before .before .before .before .before .before .before .before .before .prefix-good .result) (c .before .before .before .before .before .before .before .before .before .if2 .left))
-    (sym (c .before .before .before .before .before .before .before .before .zero-of .ensures) ∙ c .before .before .before .before .before .before .before .if3 .left)
-    (sym (c .before .before .before .before .before .before .address-good .ensures) ∙ not-false (c .before .before .before .before .before .before .address-good .result) (c .before .before .before .before .before .if4 .left))
-    (sym (c .before .before .before .slot-good .ensures ∙ ap slotGood (c .before .before .before .before .owner-slot .ensures .0)) ∙ not-false (c .before .before .before .slot-good .result) (c .before .before .if5 .left))
-    (sym (c .before .target-good .ensures) ∙ not-false (c .before .target-good .result) (c .if6 .left)))
+    (sym (c .before .before .before .before .before .before .before .before .before .before .before .before .before .before .type-good .ensures) ∙ not-false (c .before .before .before .before .before .before .before .before .before .before .before .before .before .before .type-good .result) (c .before .before .before .before .before .before .before .before .before .before .before .before .before .if1 .left))
+    (sym (c .before .before .before .before .before .before .before .before .before .before .before .before .prefix-good .ensures) ∙ not-false (c .before .before .before .before .before .before .before .before .before .before .before .before .prefix-good .result) (c .before .before .before .before .before .before .before .before .before .before .before .if2 .left))
+    (sym (c .before .before .before .before .before .before .before .before .before .before .zero-of .ensures) ∙ c .before .before .before .before .before .before .before .before .before .if3 .left)
+    (sym (c .before .before .before .before .before .before .before .before .address-good .ensures) ∙ not-false (c .before .before .before .before .before .before .before .before .address-good .result) (c .before .before .before .before .before .before .before .if4 .left))
+    (sym (c .before .before .before .before .before .slot-good .ensures ∙ ap slotGood (c .before .before .before .before .before .before .owner-slot .ensures .0)) ∙ not-false (c .before .before .before .before .before .slot-good .result) (c .before .before .before .before .if5 .left))
+    (sym (c .before .before .before .target-good .ensures) ∙ not-false (c .before .before .before .target-good .result) (c .before .before .if6 .left))
+    (sym (c .before .ttl-good .ensures) ∙ not-false (c .before .ttl-good .result) (c .if7 .left)))
 
 pub fault-spec : {M : Type 1} → statement M
 fault-spec =
@@ -107,4 +123,6 @@ fault-spec =
     returns-5
     target-good-requires
     returns-6
-    returns-7)
+    ttl-good-requires
+    returns-7
+    returns-8)

@@ -1,17 +1,25 @@
--- `plan::inside::write_record` meets its contract: four copies, each where the one before it ended. Assumes nothing.
-use mathlib.Core.Path.{_≡_}
+-- `plan::inside::write_record` meets its contract: five copies, each where the one before it ended. Assumes nothing.
+use Prim.Native.Nat.{_+_, _^_, _<_}
+use mathlib.Core.Path.{_≡_, _∙_}
 use lib.ListN.{length}
-use Rattle.plan.specs.Layout.{addressSize}
+use Rattle.plan.specs.Layout.{addressSize, ttlPlace}
 use Rattle.plan.proofs.WriteLaws.{record-written}
 use borrow.Author.Needs.{needs}
 use Rattle.plan.proofs.inside.write_record.Statement.{statement}
 use Rattle.plan.proofs.inside.write_record.Tie as tie
 
-cast-t11 : tie.Need-cast-t11
-cast-t11 c = search needs
+-- what the arguments give: an address of sixteen octets, and room up to the record's last field
+sixteen : (s : tie.Start) → length (s .args .t3) ≡ addressSize
+sixteen s = search needs
+
+room : (s : tie.Start) → s .args .to + ttlPlace < 2 ^ 64
+room s = search needs
 
 cast-t13 : tie.Need-cast-t13
 cast-t13 c = search needs
+
+cast-t15 : tie.Need-cast-t15
+cast-t15 c = search needs
 
 slice-aggregate-copy : tie.Need-slice-aggregate-copy
 slice-aggregate-copy c = search needs
@@ -40,23 +48,35 @@ add-copy-3 c = search needs
 copy-requires-4 : tie.Need-copy-requires-4
 copy-requires-4 c κs = search needs
 
+quarter-octets-requires : tie.Need-quarter-octets-requires
+quarter-octets-requires c κs = search needs
+
+slice-aggregate-copy-3 : tie.Need-slice-aggregate-copy-3
+slice-aggregate-copy-3 c = search needs
+
+add-copy-4 : tie.Need-add-copy-4
+add-copy-4 c = record { fits = room (c .before .before .before .before .before .before .before .before .before .before .before .before .before .before .before .before .before .before .before .before .before .before .before .before) }
+
+copy-requires-5 : tie.Need-copy-requires-5
+copy-requires-5 c κs = search needs
+
 same-length : tie.Need-same-length
 same-length c = search needs
 
 returns : tie.Need-returns
 returns c =
-    let a = c .before .before .before .before .before .before .before .before .before .before .before .before .before .before .before .before .before .before .before .before .before .args in
-    let w = c .before .before .before .before .before .before .before .before .before .before .before .before .before .before .before .before .before .before .before .before .before .pre in
-    let l : length (a .t3) ≡ addressSize = search needs in
-    record-written (a .out .now) _ _ _ _ (a .t3) (a .owner .now) (a .target .now) (a .kind) (a .prefix) (a .to) l (w .0) (w .1) (w .2)
-    (c .before .before .before .before .before .before .before .before .before .before .before .before .before .before .before .copy .ensures) (c .before .before .before .before .before .before .before .before .before .before .copy2 .ensures) (c .before .before .before .before .before .before .copy3 .ensures) (c .before .before .copy4 .ensures)
+    let a = c .before .before .before .before .before .before .before .before .before .before .before .before .before .before .before .before .before .before .before .before .before .before .before .before .before .before .before .args in
+    let w = c .before .before .before .before .before .before .before .before .before .before .before .before .before .before .before .before .before .before .before .before .before .before .before .before .before .before .before .pre in
+    record-written (a .out .now) _ _ _ _ _ (a .t3) (a .owner .now) (a .target .now) (a .kind) (a .prefix) (a .ttl) (a .to) (sixteen (c .before .before .before .before .before .before .before .before .before .before .before .before .before .before .before .before .before .before .before .before .before .before .before .before .before .before .before)) (w .0) (w .1) (w .2)
+    (c .before .before .before .before .before .before .before .before .before .before .before .before .before .before .before .before .before .before .before .before .before .copy .ensures) (c .before .before .before .before .before .before .before .before .before .before .before .before .before .before .before .before .copy2 .ensures) (c .before .before .before .before .before .before .before .before .before .before .before .before .copy3 .ensures) (c .before .before .before .before .before .before .before .before .copy4 .ensures)
+    (c .before .before .copy5 .ensures ∙ rw (c .before .before .before .before .before .quarter-octets .ensures))
 
 pub write-record-spec : {M : Type 1} → statement M
 write-record-spec =
     tie.close
     (tie.spec
-    cast-t11
     cast-t13
+    cast-t15
     slice-aggregate-copy
     copy-requires
     slice-aggregate-copy-2
@@ -66,5 +86,9 @@ write-record-spec =
     copy-requires-3
     add-copy-3
     copy-requires-4
+    quarter-octets-requires
+    slice-aggregate-copy-3
+    add-copy-4
+    copy-requires-5
     same-length
     returns)
