@@ -104,7 +104,7 @@ module _ (t : List ℕ) (o : InOrder t) (c : Call) where
   answered : Answered t c
   unfolding gives collapseOf
   answered = record {
-    rule = fold-rule x t;
+    rule = fold-rule x t o;
     misnamed = λ w. given ∙ number-name t x (c .size) o w;
     misshapen = λ w e. given ∙ number-output t x (c .size) o w e;
     revives = λ w e. (λ k. nine w e .0 (sym given ∙ k), λ r. given ∙ nine w e .1 r);

@@ -1,12 +1,13 @@
--- Collapses by computation: the marked ones of 01 (Examples to check), and the edges of each number. Assumes nothing.
-use Prim.Native.Nat.{ℕ}
+-- Collapses by computation: the marked ones of 01 (Examples to check), the edges of each number, and TTLs (T-01). Assumes nothing.
+use Prim.Native.Nat.{ℕ, _+_, _*_}
 use mathlib.Core.Path.{_≡_, refl}
 use mathlib.Core.List.{List, [], _∷_, _++_, map}
 use lib.ListN.{take, drop}
 use Rattle.octets.specs.Octets.{blank, flat}
+use Rattle.octets.specs.Numbers.{octetsOf}
 use Rattle.octets.specs.Answers.{answering, refusal}
 use Rattle.octets.specs.declared.Answer.{Answer}
-use Rattle.plan.specs.Layout.{slotSize, a6, slotOf, recordOf}
+use Rattle.plan.specs.Layout.{recordSize, slotSize, ttlSize, ttlPlace, a6, slotOf, recordOf}
 use Rattle.collapse.specs.Collapse.{collapseOf}
 
 -- names: h.a, p.a, q.a, x.a
@@ -42,14 +43,19 @@ host : ℕ → List ℕ
 unfolding blank
 host m = blank 15 ++ m ∷ []
 
--- an unfinished record and a finished one
+-- an unfinished record and a finished one, with a TTL of an hour
 toward : List ℕ → ℕ → List ℕ → List ℕ → List ℕ
 unfolding recordOf slotOf
-toward owner l address target = recordOf a6 l address (slotOf owner) (slotOf target)
+toward owner l address target = recordOf a6 l address (slotOf owner) (slotOf target) 3600
 
 finished : List ℕ → List ℕ → List ℕ
 unfolding recordOf slotOf blank
-finished owner address = recordOf a6 0 address (slotOf owner) (blank slotSize)
+finished owner address = recordOf a6 0 address (slotOf owner) (blank slotSize) 3600
+
+-- a record with another TTL
+lasting : ℕ → List ℕ → List ℕ
+unfolding octetsOf
+lasting ttl r = take ttlPlace r ++ octetsOf ttlSize ttl
 
 -- h.a → A6 64 ::7 p.a, and p.a → A6 0 2001:db8:0:5::
 plain : List ℕ
@@ -71,6 +77,16 @@ uneven : List ℕ
 unfolding flat toward finished sixteen pa host subnet
 uneven = flat (toward sixteen 60 (host 7) pa ∷ finished pa (subnet 0x55 0) ∷ [])
 
+-- the first table once more, with TTLs
+lived : ℕ → ℕ → List ℕ
+unfolding flat lasting toward finished ha pa host subnet
+lived m n = flat (lasting m (toward ha 64 (host 7) pa) ∷ lasting n (finished pa (subnet 5 0)) ∷ [])
+
+-- what the fold of h.a makes of it: a record of the TTL k
+folded : ℕ → ℕ → List ℕ
+unfolding flat lasting finished ha pa subnet
+folded k n = flat (lasting k (finished ha (subnet 5 7)) ∷ lasting n (finished pa (subnet 5 0)) ∷ [])
+
 pub record Case : Type 0 where
   pub table : List ℕ
   pub name : List ℕ
@@ -89,29 +105,42 @@ pub refuses : List ℕ → List ℕ → ℕ → ℕ → Case
 unfolding blank
 refuses t x size k = record { table = t; name = x; size = size; answer = refusal k; output = blank size }
 
+-- r of the TTL m and q of the TTL n make a record of the TTL k
+pub lives : ℕ → ℕ → ℕ → Case
+unfolding lived folded ha
+lives m n k = record { table = lived m n; name = ha; size = 2 * recordSize; answer = answering 2 0; output = folded k n }
+
 pub cases : List Case
-unfolding plain ignored loop uneven ha pa qa xa sixteen eights host subnet site toward finished flat blank refuses
+unfolding plain ignored loop uneven ha pa qa xa sixteen eights host subnet site toward finished flat blank lived refuses lives
 cases =
     -- the marked two
-    record { table = plain; name = ha; size = 1596; answer = answering 2 0; output = flat (finished ha (subnet 5 7) ∷ finished pa (subnet 5 0) ∷ []) ++ blank 532 }
-    ∷ refuses ignored pa 2128 9
+    record { table = plain; name = ha; size = 3 * recordSize; answer = answering 2 0; output = flat (finished ha (subnet 5 7) ∷ finished pa (subnet 5 0) ∷ []) ++ blank recordSize }
+    ∷ refuses ignored pa (4 * recordSize) 9
     -- 7 by the room, 5, 4 before 5, and 2 before 4
-    ∷ refuses plain ha 532 7
-    ∷ refuses plain ha 533 5
-    ∷ refuses plain (64 ∷ []) 533 4
-    ∷ refuses (plain ++ blank 532) (64 ∷ []) 533 2
+    ∷ refuses plain ha recordSize 7
+    ∷ refuses plain ha (recordSize + 1) 5
+    ∷ refuses plain (64 ∷ []) (recordSize + 1) 4
+    ∷ refuses (plain ++ blank recordSize) (64 ∷ []) (recordSize + 1) 2
     -- nothing to fold: a copy, of a name that owns records and of one that owns none
-    ∷ record { table = ignored; name = qa; size = 2128; answer = answering 4 0; output = ignored }
-    ∷ record { table = ignored; name = xa; size = 2660; answer = answering 4 0; output = ignored ++ blank 532 }
+    ∷ record { table = ignored; name = qa; size = 4 * recordSize; answer = answering 4 0; output = ignored }
+    ∷ record { table = ignored; name = xa; size = 5 * recordSize; answer = answering 4 0; output = ignored ++ blank recordSize }
     ∷ record { table = []; name = xa; size = 0; answer = answering 0 0; output = [] }
     -- a longer q is passed over; without a q the record goes
-    ∷ record { table = ignored; name = ha; size = 2128; answer = answering 4 0; output = finished ha (site 0) ++ drop 532 ignored }
-    ∷ record { table = take 532 plain; name = ha; size = 532; answer = answering 0 0; output = blank 532 }
+    ∷ record { table = ignored; name = ha; size = 4 * recordSize; answer = answering 4 0; output = finished ha (site 0) ++ drop recordSize ignored }
+    ∷ record { table = take recordSize plain; name = ha; size = recordSize; answer = answering 0 0; output = blank recordSize }
     -- q is from the table before, the record itself among them; a referrer of the same length does not revive
-    ∷ record { table = loop; name = xa; size = 1596; answer = answering 3 0; output = flat (toward xa 48 (host 1) xa ∷ finished xa (0x20 ∷ 0x01 ∷ 0x0d ∷ 0xb8 ∷ blank 11 ++ 1 ∷ []) ∷ finished xa (site 0) ∷ []) }
-    ∷ refuses loop xa 1064 7
+    ∷ record { table = loop; name = xa; size = 3 * recordSize; answer = answering 3 0; output = flat (toward xa 48 (host 1) xa ∷ finished xa (0x20 ∷ 0x01 ∷ 0x0d ∷ 0xb8 ∷ blank 11 ++ 1 ∷ []) ∷ finished xa (site 0) ∷ []) }
+    ∷ refuses loop xa (2 * recordSize) 7
     -- a name in another spelling, and bits that part inside an octet
-    ∷ record { table = uneven; name = eights; size = 1064; answer = answering 2 0; output = flat (finished sixteen (subnet 0x50 7) ∷ finished pa (subnet 0x55 0) ∷ []) }
+    ∷ record { table = uneven; name = eights; size = 2 * recordSize; answer = answering 2 0; output = flat (finished sixteen (subnet 0x50 7) ∷ finished pa (subnet 0x55 0) ∷ []) }
+    -- the smaller TTL of the two, whichever has it, and the edges
+    ∷ lives 300 86400 300
+    ∷ lives 86400 300 300
+    ∷ lives 2147483647 2147483647 2147483647
+    ∷ lives 2147483647 0 0
+    ∷ lives 0 16777216 0
+    -- a TTL too large is a fault of the table
+    ∷ refuses (lived 300 2147483648) ha (2 * recordSize) 2
     ∷ []
 
 pub examples : map given cases ≡ map expected cases

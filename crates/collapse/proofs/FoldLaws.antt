@@ -9,8 +9,11 @@ use lib.ListN.{length, getD}
 use Rattle.octets.proofs.BoolLaws.{clash}
 use Rattle.chains.specs.Lists.{In, upTo}
 use Rattle.chains.proofs.ListLaws.{in-at, in-upTo, upTo-in, in-pick}
-use Rattle.plan.specs.Layout.{recordSize, countOf, recordAt}
+use Rattle.chains.specs.Graph.{maxTtl}
+use Rattle.plan.specs.Layout.{recordSize, ttlOf, countOf, recordAt}
+use Rattle.plan.specs.Check.{InOrder}
 use Rattle.plan.proofs.LayoutLaws.{Whole, record-length}
+use Rattle.plan.proofs.OrderLaws.{order-good}
 use Rattle.collapse.specs.Fold.{unfinished, continues, joinedOf, madeOf, placeOf, foldOf}
 use Rattle.collapse.specs.Rule.{Unfinished, Continues, Made, taken, passed, Ruled, replaced, copied}
 use Rattle.collapse.specs.Rule as rule
@@ -108,25 +111,25 @@ module _ (x t : List ℕ) where
       (fold-source j h)
 
   -- ---- the rule, record by record
-  made-rule : (r : List ℕ) → length r ≡ recordSize → (n : ℕ) → n ≤ countOf t → Made t r n (upTo n (madeOf t r))
+  made-rule : (r : List ℕ) → length r ≡ recordSize → ttlOf r ≤ maxTtl → (n : ℕ) → n ≤ countOf t → Made t r n (upTo n (madeOf t r))
   unfolding upTo
-  made-rule r w zero h = rule.Made.start
-  made-rule r w (suc n) h = go (continues r (recordAt t n)) refl (made-rule r w n (omega arith))
+  made-rule r w v zero h = rule.Made.start
+  made-rule r w v (suc n) h = go (continues r (recordAt t n)) refl (made-rule r w v n (omega arith))
     where
       go : (b : Bool) → continues r (recordAt t n) ≡ b → Made t r n (upTo n (madeOf t r)) → Made t r (suc n) (upTo n (madeOf t r) ++ madeOf t r n)
-      go true e d = rw (made-on t r n e) (taken (continues-is r (recordAt t n) e) (joins r (recordAt t n) w (record-length t n (omega arith))) d)
+      go true e d = rw (made-on t r n e) (taken (continues-is r (recordAt t n) e) (joins r (recordAt t n) w (record-length t n (omega arith)) (omega (arith, v))) d)
       go false e d = rw (made-off t r n e, append-nil (upTo n (madeOf t r))) (passed (λ c. clash (is-continues r (recordAt t n) c) e) d)
 
-  rule-to : (n : ℕ) → n ≤ countOf t → Ruled x t n (upTo n (placeOf x t))
+  rule-to : InOrder t → (n : ℕ) → n ≤ countOf t → Ruled x t n (upTo n (placeOf x t))
   unfolding upTo
-  rule-to zero h = rule.Ruled.start
-  rule-to (suc n) h = go (unfinished x (recordAt t n)) refl (rule-to n (omega arith))
+  rule-to o zero h = rule.Ruled.start
+  rule-to o (suc n) h = go (unfinished x (recordAt t n)) refl (rule-to o n (omega arith))
     where
       go : (b : Bool) → unfinished x (recordAt t n) ≡ b → Ruled x t n (upTo n (placeOf x t)) → Ruled x t (suc n) (upTo n (placeOf x t) ++ placeOf x t n)
       go true e d =
-          rw (place-on x t n e) (replaced (unfinished-is x (recordAt t n) e) (made-rule (recordAt t n) (record-length t n (omega arith)) (countOf t) (omega arith)) d)
+          rw (place-on x t n e) (replaced (unfinished-is x (recordAt t n) e) (made-rule (recordAt t n) (record-length t n (omega arith)) (order-good t o n (omega arith) .lived) (countOf t) (omega arith)) d)
       go false e d = rw (place-off x t n e) (copied (λ u. clash (is-unfinished x (recordAt t n) u) e) d)
 
-  pub fold-rule : Ruled x t (countOf t) (foldOf x t)
+  pub fold-rule : InOrder t → Ruled x t (countOf t) (foldOf x t)
   unfolding foldOf
-  fold-rule = rule-to (countOf t) (omega arith)
+  fold-rule o = rule-to o (countOf t) (omega arith)

@@ -25,7 +25,7 @@ use Rattle.plan.specs.Graph.{ownsA6, graphOf}
 use Rattle.collapse.specs.Fold.{joinedOf, foldOf}
 use Rattle.collapse.specs.Rule.{Unfinished, Continues, Reviving}
 use Rattle.collapse.proofs.TestLaws.{a6-type, type-a6}
-use Rattle.collapse.proofs.RecordLaws.{joins}
+use Rattle.collapse.proofs.RecordLaws.{kind-joined, owner-joined, prefix-joined, target-joined, bits-joined}
 use Rattle.collapse.proofs.FoldLaws.{Source, Copy, fold-source, fold-keeps-other, fold-makes, fold-whole}
 
 -- the A6 records that a name owns
@@ -80,12 +80,15 @@ module _ (x t : List ℕ) where
   joined : (r q j : ℕ) → r < countOf t → q < countOf t → isA6 (recordAt t r) ≡ true → recordAt u j ≡ joinedOf (recordAt t r) (recordAt t q) → folding.Joined g h r q j
   unfolding ownsA6
   joined r q j lr lq s e =
-      let k = joins (recordAt t r) (recordAt t q) (record-length t r lr) (record-length t q lq) in
+      let near = recordAt t r in
+      let far = recordAt t q in
+      let wr = record-length t r lr in
+      let wq = record-length t q lq in
       record {
-        owners = λ n. ap (λ (w : List ℕ). isA6 w && sameName (ownerOf w) n) e ∙ ap₂ (λ (b : Bool) (o : List ℕ). b && sameName (nameIn o) n) (type-a6 (joinedOf (recordAt t r) (recordAt t q)) (k .kind) ∙ sym s) (k .owner);
-        length = ap prefixOf e ∙ k .prefix;
-        target = ap targetOf e ∙ ap nameIn (k .target);
-        bits = ap addressOf e ∙ k .bits;
+        owners = λ n. ap (λ (w : List ℕ). isA6 w && sameName (ownerOf w) n) e ∙ ap₂ (λ (b : Bool) (o : List ℕ). b && sameName (nameIn o) n) (type-a6 (joinedOf near far) (kind-joined near far wr wq) ∙ sym s) (owner-joined near far wr wq);
+        length = ap prefixOf e ∙ prefix-joined near far wr wq;
+        target = ap targetOf e ∙ ap nameIn (target-joined near far wr wq);
+        bits = ap addressOf e ∙ bits-joined near far wr wq;
       }
 
   -- the table after is the folding of x in the graph before

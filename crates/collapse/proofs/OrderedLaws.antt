@@ -20,7 +20,7 @@ use Rattle.plan.proofs.LayoutLaws.{record-length}
 use Rattle.plan.proofs.OrderLaws.{order-good, order-apart, order-made}
 use Rattle.collapse.specs.Fold.{unfinished, placeOf, foldOf}
 use Rattle.collapse.proofs.TestLaws.{unfinished-is}
-use Rattle.collapse.proofs.RecordLaws.{joined-good, joins}
+use Rattle.collapse.proofs.RecordLaws.{joined-good, kind-joined}
 use Rattle.collapse.proofs.FoldLaws.{Source, Copy, made-source, place-on, place-off, fold-source, fold-whole}
 
 -- ---- the DNAMEs of the rule's records stand as they stood
@@ -32,8 +32,8 @@ module _ (x t : List ℕ) where
       go : (b : Bool) → unfinished x (recordAt t i) ≡ b → placeOf x t i ≡ recordAt t i ∷ []
       go true e =
           let k = made-source x t s i h (unfinished-is x (recordAt t i) e) (rw (place-on x t i e) at m) in
-          let j = joins (recordAt t (k .r)) (recordAt t (k .q)) (record-length t (k .r) (k .there)) (record-length t (k .q) (k .here)) in
-          let z : ⊥ = omega (arith, d, ap typeOf (k .same), j .kind) in
+          let j = kind-joined (recordAt t (k .r)) (recordAt t (k .q)) (record-length t (k .r) (k .there)) (record-length t (k .q) (k .here)) in
+          let z : ⊥ = omega (arith, d, ap typeOf (k .same), j) in
           absurd z
       go false e = place-off x t i e
 

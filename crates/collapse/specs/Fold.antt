@@ -1,5 +1,5 @@
--- The rule of a collapse of the name x (01, Collapse of a name X) and its test 9 (01, What comes back), as computations. Assumes nothing.
-use Prim.Native.Nat.{ℕ}
+-- The rule of a collapse of the name x (01, Collapse of a name X; T-01) and its test 9 (01, What comes back), as computations. Assumes nothing.
+use Prim.Native.Nat.{ℕ, min}
 use mathlib.Core.Bool.{Bool, _&&_}
 use mathlib.Core.List.{List, [], _∷_}
 use lib.Dec.{leb, ltb}
@@ -13,6 +13,7 @@ use Rattle.plan.specs.Layout.{
   addressOf,
   ownerSlot,
   targetSlot,
+  ttlOf,
   nameIn,
   isA6,
   ownerOf,
@@ -33,10 +34,10 @@ unfoldable pub continues : List ℕ → List ℕ → Bool
 unfolding isA6 prefixOf nameIn ownerSlot targetSlot sameName
 continues r q = isA6 q && leb (prefixOf q) (prefixOf r) && sameName (ownerOf q) (targetOf r)
 
--- what r and q make: the owner of r, the prefix length and the target of q, the bits of q up to r's length and those of r after it
+-- what r and q make: the owner of r, the prefix length and the target of q, the bits of q up to r's length and those of r after it, the smaller TTL
 unfoldable pub joinedOf : List ℕ → List ℕ → List ℕ
-unfolding recordOf prefixOf addressOf ownerSlot targetSlot joinOf
-joinedOf r q = recordOf a6 (prefixOf q) (joinOf (addressOf q) (addressOf r) (prefixOf r)) (ownerSlot r) (targetSlot q)
+unfolding recordOf prefixOf addressOf ownerSlot targetSlot ttlOf joinOf
+joinedOf r q = recordOf a6 (prefixOf q) (joinOf (addressOf q) (addressOf r) (prefixOf r)) (ownerSlot r) (targetSlot q) (min (ttlOf r) (ttlOf q))
 
 -- what r and the record at j of the table before make, if anything
 unfoldable pub madeOf : List ℕ → List ℕ → ℕ → List (List ℕ)

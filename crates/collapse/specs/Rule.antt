@@ -1,11 +1,11 @@
--- The same rule and the same test once more, as statements that a reader can hold against 01 (Collapse of a name X; number 9). Assumes nothing.
-use Prim.Native.Nat.{ℕ, zero, suc, _≤_, _<_}
+-- The same rule and the same test once more, as statements that a reader can hold against 01 (Collapse of a name X; number 9) and T-01. Assumes nothing.
+use Prim.Native.Nat.{ℕ, zero, suc, _≤_, _<_, min}
 use mathlib.Core.Path.{_≡_}
 use mathlib.Core.List.{List, [], _∷_, _++_}
 use lib.ListN.{length}
 use Rattle.names.specs.Standard.{Same}
 use Rattle.address.specs.Address.{joinOf}
-use Rattle.plan.specs.Layout.{recordSize, a6, typeOf, prefixOf, zeroOf, addressOf, ownerSlot, targetSlot, ownerOf, targetOf, countOf, recordAt, prefixAt}
+use Rattle.plan.specs.Layout.{recordSize, a6, typeOf, prefixOf, zeroOf, addressOf, ownerSlot, targetSlot, ttlOf, ownerOf, targetOf, countOf, recordAt, prefixAt}
 
 -- an unfinished A6 record of x
 abbrev pub Unfinished : List ℕ → List ℕ → Type 0
@@ -22,6 +22,7 @@ pub record Joins (r q s : List ℕ) : Type 0 where
   pub prefix : prefixOf s ≡ prefixOf q
   pub target : targetSlot s ≡ targetSlot q
   pub bits : addressOf s ≡ joinOf (addressOf q) (addressOf r) (prefixOf r)
+  pub ttl : ttlOf s ≡ min (ttlOf r) (ttlOf q)
   pub nought : zeroOf s ≡ 0
   pub whole : length s ≡ recordSize
 

@@ -1,4 +1,4 @@
-// Collapse of a name (01, Collapse of a name X): its meaning, its running form, and what no list of collapses changes.
+// Collapse of a name (01, Collapse of a name X; T-01): its meaning, its running form, and what no list of collapses changes.
 ghost use mathlib.Core.Path.{_≡_};
 ghost use mathlib.Core.Bool.{true};
 ghost use Prim.Native.Nat.{_+_, _*_, _/_, _%_, _≤_, _<_, min, max};
@@ -8,7 +8,7 @@ ghost use Rattle.octets.specs.Answers.{refusal};
 ghost use Rattle.names.specs.Standard.{inStandardForm};
 ghost use Rattle.address.specs.Address.{joinOf};
 ghost use Rattle.chains.specs.Lists.{pick, upTo};
-ghost use Rattle.plan.specs.Layout.{recordSize, maxRecords, slotSize, prefixOf, prefixAt, addressAt, countOf, recordAt};
+ghost use Rattle.plan.specs.Layout.{recordSize, maxRecords, slotSize, prefixOf, prefixAt, addressAt, ttlAt, countOf, recordAt};
 ghost use Rattle.plan.specs.Check.{InOrder};
 ghost use Rattle.collapse.specs.Fold.{unfinished, continues, refers, joinedOf, madeOf, placeOf};
 ghost use Rattle.collapse.specs.Collapse.{collapseAnswer, collapseOut};
@@ -300,6 +300,7 @@ fn put_joined(table: &[u8], i: usize, j: usize, out: &mut [u8], n: usize)
 {
     if n < out.len() / plan::inside::RECORD {
         let address = joined_address(table, i, j);
+        let ttl = joined_ttl(table, i, j);
         let owner = plan::inside::owner_slot(plan::inside::row(table, i));
         let target = plan::inside::target_slot(plan::inside::row(table, j));
         plan::inside::write_a6(
@@ -307,6 +308,7 @@ fn put_joined(table: &[u8], i: usize, j: usize, out: &mut [u8], n: usize)
             address,
             owner,
             target,
+            ttl,
             out,
             n * plan::inside::RECORD,
         );
@@ -321,4 +323,17 @@ fn joined_address(table: &[u8], i: usize, j: usize) -> [u8; 16]
     let high = plan::inside::address(table, j);
     let low = plan::inside::address(table, i);
     address::join(high, low, plan::inside::prefix(table, i))
+}
+
+// The smaller TTL of the records i and j.
+fn joined_ttl(table: &[u8], i: usize, j: usize) -> u32
+    requires { ⌜ (i < countOf (now table)) × (j < countOf (now table)) ⌝ }
+    ensures { λ r. ⌜ r ≡ min (ttlAt (now (table .entry)) i) (ttlAt (now (table .entry)) j) ⌝ }
+{
+    let own = plan::inside::ttl(table, i);
+    let next = plan::inside::ttl(table, j);
+    if next < own {
+        return next;
+    }
+    own
 }

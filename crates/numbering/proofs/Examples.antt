@@ -3,7 +3,7 @@ use Prim.Native.Nat.{ℕ}
 use mathlib.Core.Path.{_≡_, refl}
 use mathlib.Core.List.{List, [], _∷_, map}
 use Rattle.octets.specs.Octets.{blank, flat}
-use Rattle.plan.specs.Layout.{addressSize, slotSize, a6, dname, prefixOf, targetSlot, slotOf, recordOf, countOf}
+use Rattle.plan.specs.Layout.{addressSize, slotSize, a6, dname, prefixOf, targetSlot, ttlOf, slotOf, recordOf, countOf, recordAt}
 use Rattle.plan.specs.Check.{checkOf}
 use Rattle.chains.specs.Lists.{upTo}
 use Rattle.chains.specs.Listing.{free, extend, paths, chainsFrom, chainsOf}
@@ -42,8 +42,8 @@ none = blank slotSize
 plan : List ℕ
 unfolding flat recordOf slotOf ha pa qa whole zeros none
 plan = flat (
-    recordOf a6 64 zeros (slotOf ha) (slotOf pa) ∷ recordOf a6 0 zeros (slotOf pa) none ∷ recordOf dname 0 zeros (slotOf qa) (slotOf ha)
-    ∷ recordOf a6 48 zeros (slotOf pa) (slotOf pa) ∷ recordOf a6 32 zeros (slotOf pa) (slotOf whole) ∷ [])
+    recordOf a6 64 zeros (slotOf ha) (slotOf pa) 300 ∷ recordOf a6 0 zeros (slotOf pa) none 0 ∷ recordOf dname 0 zeros (slotOf qa) (slotOf ha) 3600
+    ∷ recordOf a6 48 zeros (slotOf pa) (slotOf pa) 86400 ∷ recordOf a6 32 zeros (slotOf pa) (slotOf whole) 2147483647 ∷ [])
 
 in-order : checkOf plan ≡ 0
 unfolding checkOf plan
@@ -65,6 +65,12 @@ targets = refl
 given : map (numberIn (namesOf plan)) (qa ∷ whole ∷ halves ∷ za ∷ []) ≡ 2 ∷ 3 ∷ 3 ∷ 4 ∷ []
 unfolding numberIn namesOf plan qa whole halves za
 given = refl
+
+-- the TTLs, in the graph over names and in the one over numbers
+ttls : map (graphOf plan .ttl) (0 ∷ 1 ∷ 2 ∷ 3 ∷ 4 ∷ []) ∷ map (numbered plan .ttl) (0 ∷ 1 ∷ 2 ∷ 3 ∷ 4 ∷ []) ∷ []
+    ≡ (300 ∷ 0 ∷ 3600 ∷ 86400 ∷ 2147483647 ∷ []) ∷ (300 ∷ 0 ∷ 3600 ∷ 86400 ∷ 2147483647 ∷ []) ∷ []
+unfolding ttlOf recordAt plan
+ttls = refl
 
 -- the chains of h.a, by name and by number; the DNAME is in none
 chains : chainsOf (graphOf plan) ha ∷ chainsOf (numbered plan) 0 ∷ []

@@ -1,6 +1,6 @@
 -- What a table in order gives: places that hold names, and a graph with sound addresses. Assumes nothing.
 use Prim.Native.Nat.{ℕ, _+_, _*_, _≤_, _<_}
-use mathlib.Core.Path.{_≡_}
+use mathlib.Core.Path.{_≡_, refl}
 use mathlib.Core.Bool.{false}
 use mathlib.Core.List.{List}
 use native.Mathlib.Omega.{arith}
@@ -40,13 +40,14 @@ module _ (t : List ℕ) (o : InOrder t) where
     holds = rw (slot-target t i) (order-good t o i h .target e);
   }
 
-  -- both graphs have addresses of sixteen octets and prefix lengths up to 128
+  -- both graphs have addresses of sixteen octets, prefix lengths up to 128 and TTLs up to the greatest
   pub sound-graph : Small t → Sound (graphOf t)
   sound-graph s = record {
     sixteen = λ i h. address-length (recordAt t i) (record-length t i h);
     small = λ i h. address-small (recordAt t i) (record-small t i s);
     short = λ i h. order-good t o i h .prefix;
+    lived = λ i h. order-good t o i h .lived;
   }
 
   pub sound-numbered : Small t → Sound (numbered t)
-  sound-numbered s = sound-renamed (graphOf t) (numbered t) (renamed t) (sound-graph s)
+  sound-numbered s = sound-renamed (graphOf t) (numbered t) (renamed t) (λ i h. refl) (sound-graph s)

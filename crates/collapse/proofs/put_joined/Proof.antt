@@ -14,6 +14,9 @@ use Rattle.collapse.proofs.put_joined.Tie as tie
 joined-address-requires : tie.Need-joined-address-requires
 joined-address-requires c κs = search needs
 
+joined-ttl-requires : tie.Need-joined-ttl-requires
+joined-ttl-requires c κs = search needs
+
 row-requires : tie.Need-row-requires
 row-requires c κs = search needs
 
@@ -40,12 +43,12 @@ same-length c = search needs
 
 returns : tie.Need-returns
 returns c =
-    let a = c .before .before .before .before .before .before .before .before .before .before .before .before .before .args in
+    let a = c .before .before .before .before .before .before .before .before .before .before .before .before .before .before .args in
     let t = a .table .now in
     let r = recordAt t (a .i) in
     let q = recordAt t (a .j) in
-    let e = joined-is r q _ _ _ _ (c .before .before .before .before .prefix .ensures) (c .before .before .before .before .before .before .before .before .before .joined-address .ensures) (c .before .before .before .before .before .before .before .owner-slot .ensures .0 ∙ ap ownerSlot (c .before .before .before .before .before .before .before .before .row .ensures .0)) (c .before .before .before .before .before .target-slot .ensures .0 ∙ ap targetSlot (c .before .before .before .before .before .before .row2 .ensures .0)) in
-    c .before .before .write-a6 .ensures ∙ ap (λ (s : List ℕ). paste (a .out .now) (a .n * recordSize) s recordSize) e ∙ sym (stored-in (a .out .now) (a .n) (joinedOf r q) (c .before .before .before .before .before .before .before .before .before .before .if1 .taken))
+    let e = joined-is r q _ _ _ _ _ (c .before .before .before .before .prefix .ensures) (c .before .before .before .before .before .before .before .before .before .before .joined-address .ensures) (c .before .before .before .before .before .before .before .owner-slot .ensures .0 ∙ ap ownerSlot (c .before .before .before .before .before .before .before .before .row .ensures .0)) (c .before .before .before .before .before .target-slot .ensures .0 ∙ ap targetSlot (c .before .before .before .before .before .before .row2 .ensures .0)) (c .before .before .before .before .before .before .before .before .before .joined-ttl .ensures) in
+    c .before .before .write-a6 .ensures ∙ ap (λ (s : List ℕ). paste (a .out .now) (a .n * recordSize) s recordSize) e ∙ sym (stored-in (a .out .now) (a .n) (joinedOf r q) (c .before .before .before .before .before .before .before .before .before .before .before .if1 .taken))
 
 returns-2 : tie.Need-returns-2
 returns-2 c = let a = c .before .before .before .args in sym (stored-out (a .out .now) (a .n) (joinedOf (recordAt (a .table .now) (a .i)) (recordAt (a .table .now) (a .j))) (c .if1 .left))
@@ -55,6 +58,7 @@ put-joined-spec =
     tie.close
     (tie.spec
     joined-address-requires
+    joined-ttl-requires
     row-requires
     owner-slot-requires
     row-requires-2
