@@ -16,9 +16,11 @@ use Rattle.chains.specs.Lists.{pick}
 use Rattle.chains.specs.Graph.{Graph}
 use Rattle.chains.specs.Listing.{workOf}
 use Rattle.chains.specs.Addresses.{addressesOf}
+use Rattle.chains.specs.Lifetimes.{lifetimeOf}
 use Rattle.chains.specs.Renaming.{Alike, Renamed}
 use Rattle.chains.proofs.RenamingLaws.{renaming}
-use Rattle.plan.specs.Layout.{isA6, countOf, recordAt, prefixAt}
+use Rattle.chains.proofs.LifetimeLaws.{lifetime-renamed}
+use Rattle.plan.specs.Layout.{isA6, countOf, recordAt, prefixAt, ttlAt}
 use Rattle.plan.specs.Check.{checkOf, InOrder}
 use Rattle.plan.proofs.OrderLaws.{order-count, order-good}
 use Rattle.plan.proofs.FaultLaws.{targetless-on}
@@ -28,15 +30,15 @@ use Rattle.numbering.specs.Graph.{ownsNumbered, numbered}
 use Rattle.numbering.proofs.NumberLaws.{number-most}
 use Rattle.numbering.proofs.NamesLaws.{own-listed, target-listed, number-standard}
 use Rattle.numbering.proofs.OrderLaws.{names-fit}
-use Rattle.numbering.proofs.GraphLaws.{lookup-renamed}
+use Rattle.numbering.proofs.GraphLaws.{lookup-renamed, lifetime-number}
 use Rattle.forward.specs.Gather.{noOwner, Halved}
 use Rattle.search.specs.Search.{Records, records}
 use Rattle.search.specs.Search as search′
 use Rattle.search.specs.Links.{maxNames, Numbered}
-use Rattle.search.specs.Answers.{numberOf, answerOf, outputOf}
-use Rattle.forward.specs.Lookup.{lookupNumber, lookupAnswer, lookupOut}
+use Rattle.search.specs.Answers.{numberOf, answerOf, outputOf, livesOf}
+use Rattle.forward.specs.Lookup.{lookupNumber, lookupAnswer, lookupOut, lookupTtls}
 
--- the answer looks at the work and the addresses alone
+-- the answer looks at the work and the addresses alone, and the lifetimes besides
 module _ {N M : Type 0} (g : Graph N) (h : Graph M) (x : N) (y : M) (w : workOf g x ≡ workOf h y) (a : addressesOf g x ≡ addressesOf h y) where
   pub number-like : (limit room : ℕ) → numberOf g x limit room ≡ numberOf h y limit room
   unfolding numberOf
@@ -52,17 +54,23 @@ module _ {N M : Type 0} (g : Graph N) (h : Graph M) (x : N) (y : M) (w : workOf 
   output-like zero size = rw a
   output-like (suc k) size = refl
 
+  pub lives-like : ((v : List ℕ) → lifetimeOf g x v ≡ lifetimeOf h y v) → (k room : ℕ) → livesOf g x k room ≡ livesOf h y k room
+  unfolding livesOf
+  lives-like l zero room = let f : lifetimeOf g x ≡ lifetimeOf h y = λ i v. l v i in rw (f, a)
+  lives-like l (suc k) room = refl
+
 -- what the arrays hold once they are filled
-pub record Filled (t owners targets lengths highs lows : List ℕ) : Type 0 where
+pub record Filled (t owners targets lengths highs lows ttls : List ℕ) : Type 0 where
   pub owner : (i : ℕ) → i < countOf t → getD owners i 0 ≡ pick (isA6 (recordAt t i)) (ownNumber t i) noOwner
   pub target : (i : ℕ) → i < countOf t → getD targets i 0 ≡ targetNumber t i
   pub len : (i : ℕ) → i < countOf t → getD lengths i 0 ≡ prefixAt t i
   pub halved : Halved t highs lows (countOf t)
+  pub ttl : (i : ℕ) → i < countOf t → getD ttls i 0 ≡ ttlAt t i
   pub owners-long : countOf t ≤ length owners
 
-module _ (t owners targets lengths highs lows : List ℕ) (o : InOrder t) (f : Filled t owners targets lengths highs lows) where
+module _ (t owners targets lengths highs lows ttls : List ℕ) (o : InOrder t) (f : Filled t owners targets lengths highs lows ttls) where
   abbrev read : Records
-  read = records (take (countOf t) owners) targets lengths highs lows
+  read = records (take (countOf t) owners) targets lengths highs lows ttls
 
   read-size : length (take (countOf t) owners) ≡ countOf t
   read-size = length-take-le (countOf t) owners (f .owners-long)
@@ -91,6 +99,7 @@ module _ (t owners targets lengths highs lows : List ℕ) (o : InOrder t) (f : F
         let q : 0 < prefixAt t j = rw (f .len j k) at p in
         rw (f .target j k) (let l = target-small j k q in omega arith);
     short = λ j h. let k : j < countOf t = rw read-size at h in rw (f .len j k) (order-good t o j k .prefix);
+    lived = λ j h. let k : j < countOf t = rw read-size at h in rw (f .ttl j k) (order-good t o j k .lived);
   }
 
   -- a number that a name can have owns the same records
@@ -123,7 +132,12 @@ module _ (t owners targets lengths highs lows : List ℕ) (o : InOrder t) (f : F
     pub addresses-read : addressesOf (graphOf t) x ≡ addressesOf (search′.graphOf read) (numberIn (namesOf t) x)
     addresses-read = lookup-renamed t x .2 ∙ renaming (numbered t) (search′.graphOf read) read-renamed (numberIn (namesOf t) x) (numberIn (namesOf t) x) (read-alike (numberIn (namesOf t) x) number-small) .2
 
--- a name and its standard form have the same work and addresses
+    pub lifetime-read : (a : List ℕ) → lifetimeOf (graphOf t) x a ≡ lifetimeOf (search′.graphOf read) (numberIn (namesOf t) x) a
+    lifetime-read a =
+        lifetime-number t x a
+        ∙ lifetime-renamed (numbered t) (search′.graphOf read) read-renamed (λ i h. sym (f .ttl i h)) (numberIn (namesOf t) x) (numberIn (namesOf t) x) (read-alike (numberIn (namesOf t) x) number-small) a
+
+-- a name and its standard form have the same work, addresses and lifetimes
 module _ (t x : List ℕ) (s : Small x) (w : wellFormed x ≡ true) where
   pub work-standard : workOf (graphOf t) (standardOf x) ≡ workOf (graphOf t) x
   work-standard = lookup-renamed t (standardOf x) .1 ∙ ap (workOf (numbered t)) (number-standard (namesOf t) x s w) ∙ sym (lookup-renamed t x .1)
@@ -131,47 +145,61 @@ module _ (t x : List ℕ) (s : Small x) (w : wellFormed x ≡ true) where
   pub addresses-standard : addressesOf (graphOf t) (standardOf x) ≡ addressesOf (graphOf t) x
   addresses-standard = lookup-renamed t (standardOf x) .2 ∙ ap (addressesOf (numbered t)) (number-standard (namesOf t) x s w) ∙ sym (lookup-renamed t x .2)
 
+  pub lifetime-standard : (a : List ℕ) → lifetimeOf (graphOf t) (standardOf x) a ≡ lifetimeOf (graphOf t) x a
+  lifetime-standard a =
+      lifetime-number t (standardOf x) a ∙ ap (λ (k : ℕ). lifetimeOf (numbered t) k a) (number-standard (namesOf t) x s w) ∙ sym (lifetime-number t x a)
+
 -- each number in turn
-module _ (t name : List ℕ) (limit size : ℕ) where
-  pub lookup-table : (checkOf t ≡ 0 → ⊥) → lookupNumber t name limit size ≡ checkOf t
+module _ (t name : List ℕ) (limit size room : ℕ) where
+  pub lookup-table : (checkOf t ≡ 0 → ⊥) → lookupNumber t name limit size room ≡ checkOf t
   unfolding lookupNumber
   lookup-table h = rw (ne-eqb (checkOf t) 0 h)
 
   module _ (o : checkOf t ≡ 0) where
-    pub lookup-name : wellFormed name ≡ false → lookupNumber t name limit size ≡ 4
+    pub lookup-name : wellFormed name ≡ false → lookupNumber t name limit size room ≡ 4
     unfolding lookupNumber
     lookup-name w = rw (eq-eqb (checkOf t) 0 o, w)
 
     module _ (w : wellFormed name ≡ true) where
-      pub lookup-size : (size % 16 ≡ 0 → ⊥) → lookupNumber t name limit size ≡ 5
+      pub lookup-size : (size % 16 ≡ 0 → ⊥) → lookupNumber t name limit size room ≡ 5
       unfolding lookupNumber
       lookup-size h = rw (eq-eqb (checkOf t) 0 o, w, ne-eqb (size % 16) 0 h)
 
-      pub lookup-on : size % 16 ≡ 0 → lookupNumber t name limit size ≡ numberOf (graphOf t) name limit (size / 16)
+      pub lookup-room : size % 16 ≡ 0 → (room ≡ size / 16 → ⊥) → lookupNumber t name limit size room ≡ 5
       unfolding lookupNumber
-      lookup-on h = rw (eq-eqb (checkOf t) 0 o, w, eq-eqb (size % 16) 0 h)
+      lookup-room h n = rw (eq-eqb (checkOf t) 0 o, w, eq-eqb (size % 16) 0 h, ne-eqb room (size / 16) n)
 
-  pub lookup-refused : (k : ℕ) → lookupNumber t name limit size ≡ suc k → (refusal (suc k) ≡ lookupAnswer t name limit size) × (blank size ≡ lookupOut t name limit size)
-  unfolding lookupAnswer lookupOut answerOf outputOf
-  lookup-refused k e = (rw e, rw e)
+      pub lookup-on : size % 16 ≡ 0 → room ≡ size / 16 → lookupNumber t name limit size room ≡ numberOf (graphOf t) name limit (size / 16)
+      unfolding lookupNumber
+      lookup-on h n = rw (eq-eqb (checkOf t) 0 o, w, eq-eqb (size % 16) 0 h, eq-eqb room (size / 16) n)
 
-  pub lookup-refusing : (k : ℕ) → (k ≡ 0 → ⊥) → lookupNumber t name limit size ≡ k → (refusal k ≡ lookupAnswer t name limit size) × (blank size ≡ lookupOut t name limit size)
+  pub lookup-refused : (k : ℕ) → lookupNumber t name limit size room ≡ suc k → (refusal (suc k) ≡ lookupAnswer t name limit size room) × (blank size ≡ lookupOut t name limit size room) × (blank room ≡ lookupTtls t name limit size room)
+  unfolding lookupAnswer lookupOut lookupTtls answerOf outputOf livesOf
+  lookup-refused k e = (rw e, rw e, rw e)
+
+  pub lookup-refusing : (k : ℕ) → (k ≡ 0 → ⊥) → lookupNumber t name limit size room ≡ k → (refusal k ≡ lookupAnswer t name limit size room) × (blank size ≡ lookupOut t name limit size room) × (blank room ≡ lookupTtls t name limit size room)
   lookup-refusing zero h e = absurd (h refl)
   lookup-refusing (suc k) h e = lookup-refused k e
 
   -- the search of the standard form answers for the name
-  module _ (o : checkOf t ≡ 0) (s : Small name) (w : wellFormed name ≡ true) (h : size % 16 ≡ 0) where
+  module _ (o : checkOf t ≡ 0) (s : Small name) (w : wellFormed name ≡ true) (h : size % 16 ≡ 0) (n : room ≡ size / 16) where
     number : ℕ
     number = numberOf (graphOf t) (standardOf name) limit (size / 16)
 
-    number-is : number ≡ lookupNumber t name limit size
+    number-is : number ≡ lookupNumber t name limit size room
     unfolding number
-    number-is = number-like (graphOf t) (graphOf t) (standardOf name) name (work-standard t name s w) (addresses-standard t name s w) limit (size / 16) ∙ sym (lookup-on o w h)
+    number-is = number-like (graphOf t) (graphOf t) (standardOf name) name (work-standard t name s w) (addresses-standard t name s w) limit (size / 16) ∙ sym (lookup-on o w h n)
 
-    pub lookup-answered : answerOf (graphOf t) (standardOf name) (numberOf (graphOf t) (standardOf name) limit (size / 16)) ≡ lookupAnswer t name limit size
+    pub lookup-answered : answerOf (graphOf t) (standardOf name) (numberOf (graphOf t) (standardOf name) limit (size / 16)) ≡ lookupAnswer t name limit size room
     unfolding lookupAnswer number
     lookup-answered = answer-like (graphOf t) (graphOf t) (standardOf name) name (work-standard t name s w) (addresses-standard t name s w) number ∙ ap (answerOf (graphOf t) name) number-is
 
-    pub lookup-written : outputOf (graphOf t) (standardOf name) (numberOf (graphOf t) (standardOf name) limit (size / 16)) size ≡ lookupOut t name limit size
+    pub lookup-written : outputOf (graphOf t) (standardOf name) (numberOf (graphOf t) (standardOf name) limit (size / 16)) size ≡ lookupOut t name limit size room
     unfolding lookupOut number
     lookup-written = output-like (graphOf t) (graphOf t) (standardOf name) name (work-standard t name s w) (addresses-standard t name s w) number size ∙ ap (λ (k : ℕ). outputOf (graphOf t) name k size) number-is
+
+    pub lookup-lasting : livesOf (graphOf t) (standardOf name) (numberOf (graphOf t) (standardOf name) limit (size / 16)) (size / 16) ≡ lookupTtls t name limit size room
+    unfolding lookupTtls number
+    lookup-lasting =
+        lives-like (graphOf t) (graphOf t) (standardOf name) name (work-standard t name s w) (addresses-standard t name s w) (lifetime-standard t name s w) number (size / 16)
+        ∙ λ i. livesOf (graphOf t) name (number-is i) (sym n i)

@@ -1,29 +1,41 @@
--- Demand 2 for lookup, as one statement (01, Chains; the numbers 6 and 7). Assumes nothing.
-use Prim.Native.Nat.{ℕ, _-_, _*_, _/_, _≤_, _<_}
+-- Demand 2 for lookup, as one statement (01, Chains; the numbers 6 and 7; T-01). Assumes nothing.
+use Prim.Native.Nat.{ℕ, _-_, _*_, _≤_, _<_}
 use mathlib.Core.Path.{_≡_}
 use mathlib.Core.Logic.{_↔_}
-use mathlib.Core.List.{List, _++_}
-use lib.ListN.{length}
+use mathlib.Core.List.{List, _++_, map}
+use lib.ListN.{length, take}
 use Rattle.octets.specs.Octets.{blank, flat}
 use Rattle.octets.specs.Answers.{answering}
 use Rattle.chains.specs.Lists.{In, Distinct}
 use Rattle.chains.specs.Chain.{Chain, Spells}
 use Rattle.chains.specs.Addresses.{Ascending}
+use Rattle.chains.specs.Lifetimes.{Lifetime}
+use Rattle.plan.specs.Layout.{ttlPlace, countOf, recordAt}
 use Rattle.plan.specs.Graph.{graphOf}
-use Rattle.forward.specs.Lookup.{lookupNumber, lookupAnswer, lookupOut}
+use Rattle.forward.specs.Lookup.{lookupNumber, lookupAnswer, lookupOut, lookupTtls}
 
--- The addresses are those that some complete finite chain of the name spells, loops included, in ascending order and once each. The chains are
--- the non-empty ones that use no position twice, complete or not, once each: their number is the work. The answer is 6 when the work is more
--- than the limit; else 7 when the addresses are more than the room; else 0 with both figures and the addresses, zeros after them.
--- One of the three holds, and they exclude each other, so each number comes exactly when it is said.
-pub record Demanded (t name : List ℕ) (limit size : ℕ) : Type 0 where
+-- The addresses are those that some complete finite chain of the name spells, loops included, in ascending order and once each. The lifetime of
+-- each is the least TTL among all records of all complete chains that use no position twice and spell it. The chains are the non-empty ones that
+-- use no position twice, complete or not, once each: their number is the work. There is room for so many addresses. The answer is 6 when the
+-- work is more than the limit; else 7 when the addresses are more than the room; else 0 with both figures, the addresses and their lifetimes,
+-- zeros after them. One of the three holds, and they exclude each other, so each number comes exactly when it is said.
+pub record Demanded (t name : List ℕ) (limit room : ℕ) : Type 0 where
   pub addresses : List (List ℕ)
   pub ascending : Ascending addresses
   pub exactly : (a : List ℕ) → In a addresses ↔ Spells (graphOf t) name a
+  pub lifetime : List ℕ → ℕ
+  pub least : (a : List ℕ) → In a addresses → Lifetime (graphOf t) name a (lifetime a)
   pub chains : List (List ℕ)
   pub once : Distinct chains
   pub every : (p : List ℕ) → In p chains ↔ (Chain (graphOf t) name p × Distinct p)
-  pub over : limit < length chains → lookupNumber t name limit size ≡ 6
-  pub full : length chains ≤ limit → size / 16 < length addresses → lookupNumber t name limit size ≡ 7
-  pub done : length chains ≤ limit → length addresses ≤ size / 16
-      → (lookupAnswer t name limit size ≡ answering (length addresses) (length chains)) × (lookupOut t name limit size ≡ flat addresses ++ blank (size - length addresses * 16))
+  pub over : limit < length chains → lookupNumber t name limit (room * 16) room ≡ 6
+  pub full : length chains ≤ limit → room < length addresses → lookupNumber t name limit (room * 16) room ≡ 7
+  pub done : length chains ≤ limit → length addresses ≤ room
+      → (lookupAnswer t name limit (room * 16) room ≡ answering (length addresses) (length chains))
+      × (lookupOut t name limit (room * 16) room ≡ flat addresses ++ blank ((room - length addresses) * 16))
+      × (lookupTtls t name limit (room * 16) room ≡ map lifetime addresses ++ blank (room - length addresses))
+
+-- two tables differ in TTLs alone: record by record, the octets before the TTL are the same
+pub record ApartInTtls (t u : List ℕ) : Type 0 where
+  pub counts : countOf t ≡ countOf u
+  pub fields : (i : ℕ) → i < countOf t → take ttlPlace (recordAt t i) ≡ take ttlPlace (recordAt u i)

@@ -4,7 +4,7 @@ ghost use Prim.Native.Nat.{_≤_};
 ghost use lib.ListN.{length};
 ghost use Rattle.chains.specs.Lists.{pick};
 ghost use lib.Dec.{eqb};
-ghost use Rattle.plan.specs.Layout.{a6, countOf, prefixAt};
+ghost use Rattle.plan.specs.Layout.{a6, countOf, prefixAt, ttlAt};
 ghost use Rattle.numbering.specs.Numbers.{filled};
 ghost use Rattle.forward.specs.Gather.{noOwner, searchOwner, Halved};
 
@@ -43,6 +43,19 @@ pub fn set_lengths(table: &[u8], lengths: &mut [u8])
     let mut i: usize = 0;
     while i < n {
         lengths[i] = plan::inside::prefix(table, i);
+        i += 1;
+    }
+}
+
+// The TTLs.
+pub fn set_ttls(table: &[u8], ttls: &mut [u32])
+    requires { ⌜ countOf (now table) ≤ length (now ttls) ⌝ }
+    ensures { λ _. ⌜ now (ttls .exit) ≡ filled (ttlAt (now (table .entry))) (countOf (now (table .entry))) (now (ttls .entry)) ⌝ }
+{
+    let n = plan::inside::count(table);
+    let mut i: usize = 0;
+    while i < n {
+        ttls[i] = plan::inside::ttl(table, i);
         i += 1;
     }
 }

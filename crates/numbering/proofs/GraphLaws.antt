@@ -14,8 +14,10 @@ use Rattle.plan.proofs.FaultLaws.{targetless-on}
 use Rattle.chains.specs.Chain.{Spells}
 use Rattle.chains.specs.Listing.{chainsOf, workOf}
 use Rattle.chains.specs.Addresses.{addressesOf}
+use Rattle.chains.specs.Lifetimes.{lifetimeOf}
 use Rattle.chains.specs.Renaming.{Alike, Renamed}
 use Rattle.chains.proofs.RenamingLaws.{renamed-by, renaming}
+use Rattle.chains.proofs.LifetimeLaws.{lifetime-renamed}
 use Rattle.numbering.specs.Numbers.{numberIn, namesOf, ownNumber, targetNumber}
 use Rattle.plan.specs.Graph.{ownsA6, graphOf}
 use Rattle.numbering.specs.Graph.{ownsNumbered, numbered}
@@ -47,3 +49,6 @@ pub lookup-renamed : (t x : List ℕ) →
     × (addressesOf (graphOf t) x ≡ addressesOf (numbered t) (numberIn (namesOf t) x))
     × ((a : List ℕ) → Spells (graphOf t) x a ↔ Spells (numbered t) (numberIn (namesOf t) x) a)
 lookup-renamed t x = renaming (graphOf t) (numbered t) (renamed t) x (numberIn (namesOf t) x) (alike t x)
+
+pub lifetime-number : (t x a : List ℕ) → lifetimeOf (graphOf t) x a ≡ lifetimeOf (numbered t) (numberIn (namesOf t) x) a
+lifetime-number t x a = lifetime-renamed (graphOf t) (numbered t) (renamed t) (λ i h. refl) x (numberIn (namesOf t) x) (alike t x) a
