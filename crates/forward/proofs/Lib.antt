@@ -1,3 +1,4 @@
 pub mod GatherLaws
 pub mod LookupLaws
 pub mod Demand
+pub mod TtlLaws

@@ -5,7 +5,7 @@ use mathlib.Core.Bool.{Bool, true, false}
 use mathlib.Core.List.{List, [], _∷_}
 use lib.Dec.{ltb, eqb}
 use lib.ListN.{length, getD, take, drop}
-use lib.Seq.{take-take, drop-drop}
+use lib.Seq.{drop-drop}
 use native.Mathlib.Omega.{arith}
 use borrow.Author.Tests.{eq-eqb, ne-eqb, eqb-true, eqb-false, lt-ltb, le-ltb, ltb-true, ltb-false}
 use Rattle.octets.specs.Octets.{Small}
@@ -15,14 +15,7 @@ use Rattle.plan.specs.Check.{checkOf, InOrder}
 use Rattle.plan.proofs.OrderLaws.{order-length, order-count}
 use Rattle.plan.specs.Part.{ownerWithin, emptyPart, ownerPart}
 use Rattle.plan.proofs.LayoutLaws.{record-fits, record-small}
-use Rattle.plan.proofs.RecordLaws.{owner-small, owner-short}
-
--- a part of a part
-take-drop-take : (n k m : ℕ) (l : List ℕ) → k + n ≤ m → take n (drop k (take m l)) ≡ take n (drop k l)
-take-drop-take n zero m l h = take-take n m l (omega arith)
-take-drop-take n (suc k) zero l h = let z : ⊥ = omega arith in absurd z
-take-drop-take n (suc k) (suc m) [] h = refl
-take-drop-take n (suc k) (suc m) (x ∷ l) h = take-drop-take n k m l (omega arith)
+use Rattle.plan.proofs.RecordLaws.{owner-small, owner-short, take-drop-take}
 
 take-length-take : (n : ℕ) (l : List ℕ) → take (length (take n l)) l ≡ take n l
 take-length-take zero l = refl

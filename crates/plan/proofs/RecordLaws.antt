@@ -1,13 +1,13 @@
 -- Laws of a record's fields: how long they are, and a record made of them. Assumes nothing.
-use Prim.Native.Nat.{ℕ, _+_, _-_, _*_, _/_, _%_, _^_, _≤_, _<_}
+use Prim.Native.Nat.{ℕ, zero, suc, _+_, _-_, _*_, _/_, _%_, _^_, _≤_, _<_}
 use mathlib.Core.Path.{_≡_, refl, ap, _∙_, sym}
-use mathlib.Core.List.{List, _∷_, _++_, append-assoc}
+use mathlib.Core.List.{List, [], _∷_, _++_, append-assoc}
 use lib.ListN.{length, getD, take, drop, length-append, length-take, length-drop, take-append-drop}
-use lib.Seq.{length-take-le, take-at, drop-at, take-all, drop-cons, drop-drop}
+use lib.Seq.{length-take-le, take-take, getD-take, take-at, drop-at, take-all, drop-cons, drop-drop}
 use native.Mathlib.Omega.{arith}
 use Rattle.octets.specs.Octets.{Small}
 use Rattle.octets.specs.Numbers.{valueOf, octetsOf}
-use Rattle.octets.proofs.NumberLaws.{value-within, octets-length, value-octets-all, octets-value}
+use Rattle.octets.proofs.NumberLaws.{octets-length, value-octets-all, octets-value}
 use Rattle.octets.proofs.OctetLaws.{small-take, small-drop}
 use Rattle.plan.specs.Layout.{
   recordSize,
@@ -60,10 +60,6 @@ module _ (r : List ℕ) (s : Small r) where
   unfolding targetSlot
   target-small = small-take slotSize (drop targetPlace r) (small-drop targetPlace r s)
 
-pub ttl-small : (r : List ℕ) → length r ≡ recordSize → Small r → ttlOf r < 2 ^ 32
-unfolding ttlOf
-ttl-small r l s = value-within ttlSize r ttlPlace (omega arith) s
-
 -- a name in a slot has no more octets than the slot has room for
 pub owner-short : (r : List ℕ) → length (ownerOf r) ≤ nameRoom
 unfolding nameIn ownerSlot
@@ -73,6 +69,41 @@ owner-short r =
     let b = length-drop 1 s in
     let d = length-take slotSize (drop ownerPlace r) in
     omega arith
+
+-- a part of a part
+pub take-drop-take : (n k m : ℕ) (l : List ℕ) → k + n ≤ m → take n (drop k (take m l)) ≡ take n (drop k l)
+take-drop-take n zero m l h = take-take n m l (omega arith)
+take-drop-take n (suc k) zero l h = let z : ⊥ = omega arith in absurd z
+take-drop-take n (suc k) (suc m) [] h = refl
+take-drop-take n (suc k) (suc m) (x ∷ l) h = take-drop-take n k m l (omega arith)
+
+-- all fields but the TTL stand before it
+module _ (r s : List ℕ) (e : take ttlPlace r ≡ take ttlPlace s) where
+  octet-front : (i : ℕ) → i < ttlPlace → getD r i 0 ≡ getD s i 0
+  octet-front i h = sym (getD-take ttlPlace r i 0 h) ∙ ap (λ (l : List ℕ). getD l i 0) e ∙ getD-take ttlPlace s i 0 h
+
+  part-front : (n k : ℕ) → k + n ≤ ttlPlace → take n (drop k r) ≡ take n (drop k s)
+  part-front n k h = sym (take-drop-take n k ttlPlace r h) ∙ ap (λ (l : List ℕ). take n (drop k l)) e ∙ take-drop-take n k ttlPlace s h
+
+  pub type-front : typeOf r ≡ typeOf s
+  unfolding typeOf
+  type-front = let a = octet-front 0 (omega arith) in let b = octet-front 1 (omega arith) in λ i. a i * 256 + b i
+
+  pub prefix-front : prefixOf r ≡ prefixOf s
+  unfolding prefixOf
+  prefix-front = octet-front 2 (omega arith)
+
+  pub address-front : addressOf r ≡ addressOf s
+  unfolding addressOf
+  address-front = part-front addressSize addressPlace (omega arith)
+
+  pub owner-front : ownerSlot r ≡ ownerSlot s
+  unfolding ownerSlot
+  owner-front = part-front slotSize ownerPlace (omega arith)
+
+  pub target-front : targetSlot r ≡ targetSlot s
+  unfolding targetSlot
+  target-front = part-front slotSize targetPlace (omega arith)
 
 -- the fields of a record that was made of fields
 module _ (type prefix : ℕ) (address owner target : List ℕ) (ttl : ℕ) where
