@@ -1,13 +1,12 @@
 // The C interface: each function takes slices and numbers, asks nothing of its caller, and returns the number of 01 (What comes back).
 ghost use mathlib.Core.Path.{_≡_};
 ghost use lib.ListN.{length};
-ghost use Rattle.octets.specs.Octets.{blank};
 ghost use Rattle.names.specs.Answers.{standardAnswer, standardOut};
 ghost use Rattle.a6.specs.Read.{readOf};
 ghost use Rattle.a6.specs.Write.{writeAnswer, writeOut};
 ghost use Rattle.plan.specs.Check.{checkOf};
 ghost use Rattle.plan.specs.Part.{ownerPart};
-ghost use Rattle.forward.specs.Lookup.{lookupAnswer, lookupOut};
+ghost use Rattle.forward.specs.Lookup.{lookupAnswer, lookupOut, lookupTtls};
 ghost use Rattle.reverse.specs.Answers.{reverseAnswer, reverseOut};
 ghost use Rattle.collapse.specs.Collapse.{collapseAnswer, collapseOut};
 ghost use Rattle.a6plan.specs.Exports.{partAnswer, valueSize, valueIn, exportedReadNumber, exportedValue, exportedWriteNumber, exportedWriteOut, exportedNumber, exportedFigures, exportedOut};
@@ -62,12 +61,12 @@ pub extern "C" fn a6plan_write(value: &[u8], out: &mut [u8], figures: &mut [u32]
 {
     if value.len() != VALUE {
         octets::clear(out);
-        clear_figures(figures);
+        octets::numbers::clear(figures);
         return 5;
     }
     if figures.len() != 2 {
         octets::clear(out);
-        clear_figures(figures);
+        octets::numbers::clear(figures);
         return 5;
     }
     let answer = a6::write(take_value(value), out);
@@ -101,23 +100,27 @@ pub extern "C" fn a6plan_owner(table: &[u8], index: usize, figures: &mut [u32]) 
     report(answer, figures)
 }
 
-// The addresses of a name in ascending order, sixteen octets each, then zeros; figures: their count and the work.
+// The addresses of a name in ascending order, sixteen octets each, then zeros; at the place of each, in the list of TTLs, how long it lives,
+// then zeros; figures: their count and the work.
 #[no_mangle]
 pub extern "C" fn a6plan_lookup(
     table: &[u8],
     name: &[u8],
     limit: u32,
     out: &mut [u8],
+    ttls: &mut [u32],
     figures: &mut [u32],
 ) -> u32
-    ensures number { λ r. ⌜ r ≡ exportedNumber (length (now (figures .entry))) (lookupAnswer (now (table .entry)) (now (name .entry)) limit (length (now (out .entry))) .number) ⌝ }
-    ensures output { λ r. ⌜ now (out .exit) ≡ exportedOut r (lookupOut (now (table .entry)) (now (name .entry)) limit (length (now (out .entry)))) ⌝ }
-    ensures figured { λ r. ⌜ now (figures .exit) ≡ exportedFigures r (lookupAnswer (now (table .entry)) (now (name .entry)) limit (length (now (out .entry)))) (length (now (figures .entry))) ⌝ }
+    ensures number { λ r. ⌜ r ≡ exportedNumber (length (now (figures .entry))) (lookupAnswer (now (table .entry)) (now (name .entry)) limit (length (now (out .entry))) (length (now (ttls .entry))) .number) ⌝ }
+    ensures output { λ r. ⌜ now (out .exit) ≡ exportedOut r (lookupOut (now (table .entry)) (now (name .entry)) limit (length (now (out .entry))) (length (now (ttls .entry)))) ⌝ }
+    ensures lifetimes { λ r. ⌜ now (ttls .exit) ≡ exportedOut r (lookupTtls (now (table .entry)) (now (name .entry)) limit (length (now (out .entry))) (length (now (ttls .entry)))) ⌝ }
+    ensures figured { λ r. ⌜ now (figures .exit) ≡ exportedFigures r (lookupAnswer (now (table .entry)) (now (name .entry)) limit (length (now (out .entry))) (length (now (ttls .entry)))) (length (now (figures .entry))) ⌝ }
 {
-    let answer = forward::lookup(table, name, limit, out);
+    let answer = forward::lookup(table, name, limit, out, ttls);
     let number = report(answer, figures);
     if number != 0 {
         octets::clear(out);
+        octets::numbers::clear(ttls);
     }
     number
 }
@@ -188,7 +191,7 @@ fn report(answer: octets::Answer, figures: &mut [u32]) -> u32
     ensures number { λ r. ⌜ r ≡ exportedNumber (length (now (figures .entry))) (answer .number) ⌝ }
     ensures figured { λ r. ⌜ now (figures .exit) ≡ exportedFigures r answer (length (now (figures .entry))) ⌝ }
 {
-    clear_figures(figures);
+    octets::numbers::clear(figures);
     let number = exported(figures.len(), answer.number);
     if number != 0 {
         return number;
@@ -212,16 +215,4 @@ fn exported(n: usize, number: u8) -> u32
         return 5;
     }
     number as u32
-}
-
-// Zeros in every place.
-fn clear_figures(figures: &mut [u32])
-    ensures { λ _. ⌜ now (figures .exit) ≡ blank (length (now (figures .entry))) ⌝ }
-{
-    let n = figures.len();
-    let mut i: usize = 0;
-    while i < n {
-        figures[i] = 0;
-        i += 1;
-    }
 }

@@ -14,8 +14,8 @@ use Rattle.a6plan.proofs.a6plan_write.Tie as tie
 clear-requires : tie.Need-clear-requires
 clear-requires c κs = search needs
 
-clear-figures-requires : tie.Need-clear-figures-requires
-clear-figures-requires c κs = search needs
+clear-requires-2 : tie.Need-clear-requires-2
+clear-requires-2 c κs = search needs
 
 same-length : tie.Need-same-length
 same-length c = search needs
@@ -31,14 +31,14 @@ returns c =
     let room = length (a .out .now) in
     let v = valueIn (a .value .now) in (
       sym (write-misfit m n (writeAnswer v room) (c .before .before .before .before .before .before .before .before .if1 .taken)),
-      (c .before .before .before .before .before .before .clear .ensures ∙ sym (out-misfit m n (writeOut v room) room (c .before .before .before .before .before .before .before .before .if1 .taken)), c .before .before .clear-figures .ensures ∙ sym (figures-refused 5 (writeAnswer v room) n (λ h. omega arith))),
+      (c .before .before .before .before .before .before .clear .ensures ∙ sym (out-misfit m n (writeOut v room) room (c .before .before .before .before .before .before .before .before .if1 .taken)), c .before .before .clear2 .ensures ∙ sym (figures-refused 5 (writeAnswer v room) n (λ h. omega arith))),
     )
 
-clear-requires-2 : tie.Need-clear-requires-2
-clear-requires-2 c κs = search needs
+clear-requires-3 : tie.Need-clear-requires-3
+clear-requires-3 c κs = search needs
 
-clear-figures-requires-2 : tie.Need-clear-figures-requires-2
-clear-figures-requires-2 c κs = search needs
+clear-requires-4 : tie.Need-clear-requires-4
+clear-requires-4 c κs = search needs
 
 same-length-3 : tie.Need-same-length-3
 same-length-3 c = search needs
@@ -54,7 +54,7 @@ returns-2 c =
     let room = length (a .out .now) in
     let v = valueIn (a .value .now) in (
       sym (write-figures m n (writeAnswer v room) (c .before .before .before .before .before .before .before .before .before .if1 .left) (c .before .before .before .before .before .before .before .before .if2 .taken)),
-      (c .before .before .before .before .before .before .clear2 .ensures ∙ sym (out-figures m n (writeOut v room) room (c .before .before .before .before .before .before .before .before .before .if1 .left) (c .before .before .before .before .before .before .before .before .if2 .taken)), c .before .before .clear-figures2 .ensures ∙ sym (figures-refused 5 (writeAnswer v room) n (λ h. omega arith))),
+      (c .before .before .before .before .before .before .clear3 .ensures ∙ sym (out-figures m n (writeOut v room) room (c .before .before .before .before .before .before .before .before .before .if1 .left) (c .before .before .before .before .before .before .before .before .if2 .taken)), c .before .before .clear4 .ensures ∙ sym (figures-refused 5 (writeAnswer v room) n (λ h. omega arith))),
     )
 
 take-value-requires : tie.Need-take-value-requires
@@ -94,12 +94,12 @@ a6plan-write-spec =
     tie.close
     (tie.spec
     clear-requires
-    clear-figures-requires
+    clear-requires-2
     same-length
     same-length-2
     returns
-    clear-requires-2
-    clear-figures-requires-2
+    clear-requires-3
+    clear-requires-4
     same-length-3
     same-length-4
     returns-2

@@ -9,20 +9,20 @@ use Rattle.a6plan.proofs.ExportLaws.{exported-zero, figures-done, figur
 use Rattle.a6plan.proofs.report.Statement.{statement}
 use Rattle.a6plan.proofs.report.Tie as tie
 
-clear-figures-requires : tie.Need-clear-figures-requires
-clear-figures-requires c κs = search needs
+clear-requires : tie.Need-clear-requires
+clear-requires c κs = search needs
 
 exported-requires : tie.Need-exported-requires
 exported-requires c κs = search needs
 
 -- the number that comes back is the exported one
 told : (c : tie.After-exported) → c .exported .result ≡ exportedNumber (length (c .before .before .before .before .before .before .args .figures .now)) (c .before .before .before .before .before .before .args .answer .number)
-told c = c .exported .ensures ∙ ap (λ (k : ℕ). exportedNumber k (c .before .before .before .before .before .before .args .answer .number)) (c .before .before .before .clear-figures .kept .0)
+told c = c .exported .ensures ∙ ap (λ (k : ℕ). exportedNumber k (c .before .before .before .before .before .before .args .answer .number)) (c .before .before .before .clear .kept .0)
 
 -- where it is 0 there are two places
-two : (c : tie.After-exported) → c .exported .result ≡ 0 → length (c .before .before .before .clear-figures .last .0) ≡ 2
+two : (c : tie.After-exported) → c .exported .result ≡ 0 → length (c .before .before .before .clear .last .0) ≡ 2
 two c h =
-    c .before .before .before .clear-figures .kept .0
+    c .before .before .before .clear .kept .0
     ∙ exported-zero (length (c .before .before .before .before .before .before .args .figures .now)) (c .before .before .before .before .before .before .args .answer .number) (sym (told c) ∙ h) .0
 
 same-length : tie.Need-same-length
@@ -31,7 +31,7 @@ same-length c = search needs
 returns : tie.Need-returns
 returns c =
     let a = c .before .before .before .before .before .before .before .args in
-    (told (c .before), c .before .before .before .before .clear-figures .ensures ∙ sym (figures-refused (c .before .exported .result) (a .answer) (length (a .figures .now)) (c .if1 .taken)))
+    (told (c .before), c .before .before .before .before .clear .ensures ∙ sym (figures-refused (c .before .exported .result) (a .answer) (length (a .figures .now)) (c .if1 .taken)))
 
 slice-write-figures : tie.Need-slice-write-figures
 slice-write-figures c = omega (arith, two (c .before) (c .if1 .left))
@@ -46,7 +46,7 @@ returns-2 : tie.Need-returns-2
 returns-2 c =
     let a = c .before .before .before .before .before .before .before .args in (
       sym (c .if1 .left) ∙ told (c .before),
-      figures-written (a .answer .count) (a .answer .work) (c .before .before .before .before .clear-figures .last .0) (two (c .before) (c .if1 .left))
+      figures-written (a .answer .count) (a .answer .work) (c .before .before .before .before .clear .last .0) (two (c .before) (c .if1 .left))
           ∙ sym (figures-done 0 (a .answer) (length (a .figures .now)) refl),
     )
 
@@ -54,7 +54,7 @@ pub report-spec : {M : Type 1} → statement M
 report-spec =
     tie.close
     (tie.spec
-    clear-figures-requires
+    clear-requires
     exported-requires
     same-length
     returns
