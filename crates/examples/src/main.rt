@@ -24,8 +24,11 @@ const SCRIPT: usize = 16384;
 
 const TABLE: usize = 32 * plan::inside::RECORD;
 
-// The octets for 8 addresses, the work limit and the rewrite limit.
-const ADDRESSES: usize = 128;
+// The TTL of every record: an hour, since neither the RFC nor 01 gives its records one.
+const TTL: u32 = 3600;
+
+// The room: so many addresses; the work limit and the rewrite limit.
+const ROOM: usize = 8;
 
 const WORK: u32 = 10000;
 
@@ -123,7 +126,7 @@ fn put_a6(line: &[u8], table: &mut [u8], size: usize)
     let prefix = text::prefix(line, 2);
     let address = text::address(line, 3);
     let target = text::slot(line, 4);
-    plan::inside::write_a6(prefix, address, &owner, &target, table, size);
+    plan::inside::write_a6(prefix, address, &owner, &target, TTL, table, size);
 }
 
 fn put_dname(line: &[u8], table: &mut [u8], size: usize)
@@ -137,6 +140,7 @@ fn put_dname(line: &[u8], table: &mut [u8], size: usize)
         [0u8; 16],
         &owner,
         &target,
+        TTL,
         table,
         size,
     );
@@ -180,8 +184,15 @@ fn replace(made: &[u8], size: usize, table: &mut [u8], before: usize) -> usize
 
 fn lookup(line: &[u8], plan: &[u8]) {
     let slot = text::slot(line, 1);
-    let mut out = [0u8; ADDRESSES];
-    let answer = forward::lookup(plan, plan::inside::name_in(&slot), WORK, &mut out);
+    let mut out = [0u8; 16 * ROOM];
+    let mut ttls = [0u32; ROOM];
+    let answer = forward::lookup(
+        plan,
+        plan::inside::name_in(&slot),
+        WORK,
+        &mut out,
+        &mut ttls,
+    );
     print::answered(line, answer, b": addresses ", b", work ");
     print::addresses(&out, answer.count as usize * 16);
     print::line(b"");

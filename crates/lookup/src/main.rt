@@ -6,12 +6,12 @@ use libc::STDOUT_FILENO;
 // The octets of a slot, and the most octets that are read: the slot and 120 records.
 const SLOT: usize = 256;
 
-const MOST: usize = 64096;
+const MOST: usize = SLOT + 120 * plan::inside::RECORD;
 
-// The work limit, and the octets of room for 64 addresses.
+// The work limit, and the room: so many addresses.
 const LIMIT: u32 = 10000;
 
-const ROOM: usize = 1024;
+const ROOM: usize = 64;
 
 fn main() {
     let mut input = [0u8; MOST + 1];
@@ -40,8 +40,9 @@ fn answer(input: &[u8]) {
 
 // The answer for a name and a table.
 fn look(name: &[u8], table: &[u8]) {
-    let mut out = [0u8; ROOM];
-    let found = forward::lookup(table, name, LIMIT, &mut out);
+    let mut out = [0u8; 16 * ROOM];
+    let mut ttls = [0u32; ROOM];
+    let found = forward::lookup(table, name, LIMIT, &mut out, &mut ttls);
     let number = found.number;
     if number != 0 {
         write_refused(number);
