@@ -56,8 +56,8 @@ use Rattle.plan.proofs.PartLaws.{part-refused, part-past}
 use Rattle.plan.proofs.check.Reads as check
 use Rattle.plan.proofs.owner.Reads as owner
 use Rattle.plan.proofs.owner_part.Reads as owner-part
-use Rattle.search.specs.Answers.{answerOf, outputOf}
-use Rattle.forward.specs.Lookup.{lookupNumber, lookupAnswer, lookupOut}
+use Rattle.search.specs.Answers.{answerOf, outputOf, livesOf}
+use Rattle.forward.specs.Lookup.{lookupNumber, lookupAnswer, lookupOut, lookupTtls}
 use Rattle.forward.proofs.lookup.Reads as lookup
 use Rattle.reverse.specs.Walk as walks
 use Rattle.reverse.specs.Answers as replies
@@ -154,10 +154,12 @@ pub plan-owner-part : (κs : Lfts 1) (table : RefT (List ℕ)) (index : ℕ) (r 
 plan-owner-part κs table index r = plainly
 
 -- ---- forward, reverse and collapse
-pub forward-lookup : (κs : Lfts 3) (table name out end : RefT (List ℕ)) (limit : ℕ) (r : Answer)
-    → Promises (lookup.Asked κs) (lookup.Learnt κs) (table, (name, (limit, (out, tt)))) r (table, (name, (limit, (end, tt))))
-    ((r ≡ lookupAnswer (now table) (now name) limit (length (now out))) × (now end ≡ lookupOut (now table) (now name) limit (length (now out))))
-forward-lookup κs table name out end limit r = plainly
+pub forward-lookup : (κs : Lfts 4) (table name out end ttls left : RefT (List ℕ)) (limit : ℕ) (r : Answer)
+    → Promises (lookup.Asked κs) (lookup.Learnt κs) (table, (name, (limit, (out, (ttls, tt))))) r (table, (name, (limit, (end, (left, tt)))))
+    ((r ≡ lookupAnswer (now table) (now name) limit (length (now out)) (length (now ttls)))
+    × ((now end ≡ lookupOut (now table) (now name) limit (length (now out)) (length (now ttls)))
+    × (now left ≡ lookupTtls (now table) (now name) limit (length (now out)) (length (now ttls)))))
+forward-lookup κs table name out end ttls left limit r = plainly
 
 pub reverse-lookup : (κs : Lfts 3) (table address out end : RefT (List ℕ)) (limit : ℕ) (r : Answer)
     → Promises (reverse.Asked κs) (reverse.Learnt κs) (table, (address, (limit, (out, tt)))) r (table, (address, (limit, (end, tt))))
@@ -196,12 +198,13 @@ pub export-owner : (κs : Lfts 2) (table : RefT (List ℕ)) (index : ℕ) (figur
     ((r ≡ exportedNumber (length (now figures)) 0) × (now figured ≡ exportedFigures r (partAnswer (ownerPart (now table) index)) (length (now figures))))
 export-owner κs table index figures figured r = plainly
 
-pub export-lookup : (κs : Lfts 4) (table name : RefT (List ℕ)) (limit : ℕ) (out end figures figured : RefT (List ℕ)) (r : ℕ)
-    → Promises (a6plan-lookup.Asked κs) (a6plan-lookup.Learnt κs) (table, (name, (limit, (out, (figures, tt))))) r (table, (name, (limit, (end, (figured, tt)))))
-    ((r ≡ exportedNumber (length (now figures)) (lookupAnswer (now table) (now name) limit (length (now out)) .number))
-    × ((now end ≡ exportedOut r (lookupOut (now table) (now name) limit (length (now out))))
-    × (now figured ≡ exportedFigures r (lookupAnswer (now table) (now name) limit (length (now out))) (length (now figures)))))
-export-lookup κs table name limit out end figures figured r = plainly
+pub export-lookup : (κs : Lfts 5) (table name : RefT (List ℕ)) (limit : ℕ) (out end ttls left figures figured : RefT (List ℕ)) (r : ℕ)
+    → Promises (a6plan-lookup.Asked κs) (a6plan-lookup.Learnt κs) (table, (name, (limit, (out, (ttls, (figures, tt)))))) r (table, (name, (limit, (end, (left, (figured, tt))))))
+    ((r ≡ exportedNumber (length (now figures)) (lookupAnswer (now table) (now name) limit (length (now out)) (length (now ttls)) .number))
+    × ((now end ≡ exportedOut r (lookupOut (now table) (now name) limit (length (now out)) (length (now ttls))))
+    × ((now left ≡ exportedOut r (lookupTtls (now table) (now name) limit (length (now out)) (length (now ttls))))
+    × (now figured ≡ exportedFigures r (lookupAnswer (now table) (now name) limit (length (now out)) (length (now ttls))) (length (now figures))))))
+export-lookup κs table name limit out end ttls left figures figured r = plainly
 
 pub export-reverse : (κs : Lfts 4) (table address : RefT (List ℕ)) (limit : ℕ) (out end figures figured : RefT (List ℕ)) (r : ℕ)
     → Promises (a6plan-reverse.Asked κs) (a6plan-reverse.Learnt κs) (table, (address, (limit, (out, (figures, tt))))) r (table, (address, (limit, (end, (figured, tt)))))
@@ -251,13 +254,15 @@ write-clears v room = go (writeNumber v room)
     go zero h = absurd (h refl)
     go (suc k) h = (refl, refl, refl)
 
-pub lookup-clears : (t name : List ℕ) (limit size : ℕ) → Cleared (lookupAnswer t name limit size) (lookupOut t name limit size) size
-unfolding lookupAnswer lookupOut answerOf outputOf
-lookup-clears t name limit size = go (lookupNumber t name limit size)
+-- both lists
+pub lookup-clears : (t name : List ℕ) (limit size room : ℕ)
+    → Cleared (lookupAnswer t name limit size room) (lookupOut t name limit size room) size × Cleared (lookupAnswer t name limit size room) (lookupTtls t name limit size room) room
+unfolding lookupAnswer lookupOut lookupTtls answerOf outputOf livesOf
+lookup-clears t name limit size room = go (lookupNumber t name limit size room)
   where
-    go : (k : ℕ) → Cleared (answerOf (graphOf t) name k) (outputOf (graphOf t) name k size) size
-    go zero h = absurd (h refl)
-    go (suc k) h = (refl, refl, refl)
+    go : (k : ℕ) → Cleared (answerOf (graphOf t) name k) (outputOf (graphOf t) name k size) size × Cleared (answerOf (graphOf t) name k) (livesOf (graphOf t) name k room) room
+    go zero = (λ h. absurd (h refl), λ h. absurd (h refl))
+    go (suc k) = (λ h. (refl, refl, refl), λ h. (refl, refl, refl))
 
 pub reverse-clears : (t address : List ℕ) (limit room : ℕ) → Cleared (reverseAnswer t address limit room) (reverseOut t address limit room) room
 unfolding reverseAnswer reverseOut replies.answerFor replies.outFor
@@ -295,8 +300,13 @@ exported-clears a out size n l h = let k = exportedNumber n (a .number) in (out-
 pub export-standard-clears : (name : List ℕ) (room n : ℕ) → Small name → ClearedExport (standardAnswer name room) (standardOut name room) room n
 export-standard-clears name room n s = exported-clears (standardAnswer name room) (standardOut name room) room n (standard-filled name room s)
 
-pub export-lookup-clears : (t name : List ℕ) (limit size n : ℕ) → Small t → ClearedExport (lookupAnswer t name limit size) (lookupOut t name limit size) size n
-export-lookup-clears t name limit size n s = exported-clears (lookupAnswer t name limit size) (lookupOut t name limit size) size n (lookup-filled t name limit size s)
+pub export-lookup-clears : (t name : List ℕ) (limit size room n : ℕ) → Small t
+    → ClearedExport (lookupAnswer t name limit size room) (lookupOut t name limit size room) size n × ClearedExport (lookupAnswer t name limit size room) (lookupTtls t name limit size room) room n
+export-lookup-clears t name limit size room n s =
+    let f = lookup-filled t name limit size room s in (
+      exported-clears (lookupAnswer t name limit size room) (lookupOut t name limit size room) size n (f .0),
+      exported-clears (lookupAnswer t name limit size room) (lookupTtls t name limit size room) room n (f .1),
+    )
 
 pub export-reverse-clears : (t address : List ℕ) (limit room n : ℕ) → Small address → ClearedExport (reverseAnswer t address limit room) (reverseOut t address limit room) room n
 export-reverse-clears t address limit room n s =

@@ -1,5 +1,5 @@
 -- Demand 2: lookup, reverse, and A6 data there and back, of the definitions that the running functions meet (Demand1). Assumes nothing.
-use Prim.Native.Nat.{ℕ, zero, suc, _-_, _/_, _%_, _≤_, _<_}
+use Prim.Native.Nat.{ℕ, zero, suc, _-_, _*_, _≤_, _<_}
 use mathlib.Core.Path.{_≡_, refl, ap, _∙_, sym}
 use mathlib.Core.Logic.{_↔_, _⊎_, inl, inr}
 use mathlib.Core.Bool.{Bool, true, false}
@@ -12,13 +12,16 @@ use Rattle.octets.specs.Octets.{blank, Small}
 use Rattle.octets.specs.Answers.{answering}
 use Rattle.octets.specs.declared.Answer.{Answer}
 use Rattle.labels.specs.Scan.{wellFormed}
-use Rattle.plan.specs.Layout.{addressSize}
+use Rattle.chains.specs.Lists.{In}
+use Rattle.chains.specs.Lifetimes.{Source, Lifetime}
+use Rattle.plan.specs.Layout.{addressSize, ttlAt}
 use Rattle.plan.specs.Check.{InOrder}
 use Rattle.plan.specs.Graph.{graphOf}
 use Rattle.search.specs.Answers.{answerOf}
-use Rattle.forward.specs.Lookup.{lookupNumber, lookupAnswer}
-use Rattle.forward.specs.Demand.{Demanded}
+use Rattle.forward.specs.Lookup.{lookupNumber, lookupAnswer, lookupOut}
+use Rattle.forward.specs.Demand.{Demanded, ApartInTtls}
 use Rattle.forward.proofs.Demand.{lookup-demand}
+use Rattle.forward.proofs.TtlLaws.{number-apart, answer-apart, out-apart}
 use Rattle.reverse.specs.Demand.{ReverseIs}
 use Rattle.reverse.proofs.Demand.{reverse-is}
 use Rattle.a6.specs.Data.{Shaped}
@@ -31,15 +34,16 @@ use Rattle.a6.proofs.ReadLaws.{reading-number}
 use Rattle.a6.proofs.RoundTrip.{write-read, read-write}
 
 -- ---- lookup
--- On input that earns none of 1 to 5: the addresses are those that some complete finite chain of the name spells, ascending and once each; the work
--- is the number of chains that use no position twice; the answer is 6, 7, or both figures and the addresses.
-pub lookup : (t name : List ℕ) (limit size : ℕ) → InOrder t → Small t → wellFormed name ≡ true → size % 16 ≡ 0 → Demanded t name limit size
-lookup t name limit size o s w z = lookup-demand t name limit size o s w z
+-- On input that earns none of 1 to 5: the addresses are those that some complete finite chain of the name spells, ascending and once each; the
+-- lifetime of each is the least TTL among the records of those chains that use no position twice; the work is the number of chains that use no
+-- position twice; the answer is 6, 7, or both figures, the addresses and their lifetimes.
+pub lookup : (t name : List ℕ) (limit room : ℕ) → InOrder t → Small t → wellFormed name ≡ true → Demanded t name limit room
+lookup t name limit room o s w = lookup-demand t name limit room o s w
 
-module _ {t name : List ℕ} {limit size : ℕ} (d : Demanded t name limit size) where
+module _ {t name : List ℕ} {limit room : ℕ} (d : Demanded t name limit room) where
   -- the number, the work and the count of addresses
   abbrev pub number : ℕ
-  number = lookupAnswer t name limit size .number
+  number = lookupAnswer t name limit (room * 16) room .number
 
   abbrev pub work : ℕ
   work = length (d .chains)
@@ -47,9 +51,9 @@ module _ {t name : List ℕ} {limit size : ℕ} (d : Demanded t name limit size)
   abbrev pub count : ℕ
   count = length (d .addresses)
 
-  number-is : number ≡ lookupNumber t name limit size
+  number-is : number ≡ lookupNumber t name limit (room * 16) room
   unfolding lookupAnswer answerOf
-  number-is = go (lookupNumber t name limit size)
+  number-is = go (lookupNumber t name limit (room * 16) room)
     where
       go : (k : ℕ) → answerOf (graphOf t) name k .number ≡ k
       go zero = refl
@@ -57,20 +61,20 @@ module _ {t name : List ℕ} {limit size : ℕ} (d : Demanded t name limit size)
 
   -- one of three holds
   abbrev Ways : Type 0
-  Ways = ((limit < work) × (number ≡ 6)) ⊎ ((((work ≤ limit) × (size / 16 < count)) × (number ≡ 7)) ⊎ (((work ≤ limit) × (count ≤ size / 16)) × (number ≡ 0)))
+  Ways = ((limit < work) × (number ≡ 6)) ⊎ ((((work ≤ limit) × (room < count)) × (number ≡ 7)) ⊎ (((work ≤ limit) × (count ≤ room)) × (number ≡ 0)))
 
   ways : Ways
-  ways = go (ltb limit work) refl (ltb (size / 16) count) refl
+  ways = go (ltb limit work) refl (ltb room count) refl
     where
-      go : (a : Bool) → ltb limit work ≡ a → (b : Bool) → ltb (size / 16) count ≡ b → Ways
+      go : (a : Bool) → ltb limit work ≡ a → (b : Bool) → ltb room count ≡ b → Ways
       go true e b f = let h = ltb-true limit work e in inl (h, number-is ∙ d .over h)
       go false e true f =
           let h = ltb-false limit work e in
-          let k = ltb-true (size / 16) count f in
+          let k = ltb-true room count f in
           inr (inl ((h, k), number-is ∙ d .full h k))
       go false e false f =
           let h = ltb-false limit work e in
-          let k = ltb-false (size / 16) count f in
+          let k = ltb-false room count f in
           inr (inr ((h, k), ap (λ (a : Answer). a .number) (d .done h k .0)))
 
   -- so each of the three numbers is given exactly when it is due
@@ -82,21 +86,39 @@ module _ {t name : List ℕ} {limit size : ℕ} (d : Demanded t name limit size)
       there (inr (inl a)) e = let z : ⊥ = omega (arith, a .1) in absurd z
       there (inr (inr a)) e = let z : ⊥ = omega (arith, a .1) in absurd z
 
-  pub lookup-seven : (number ≡ 7) ↔ ((work ≤ limit) × (size / 16 < count))
+  pub lookup-seven : (number ≡ 7) ↔ ((work ≤ limit) × (room < count))
   lookup-seven = (there ways, λ h. number-is ∙ d .full (h .0) (h .1))
     where
-      there : Ways → (number ≡ 7) → ((work ≤ limit) × (size / 16 < count))
+      there : Ways → (number ≡ 7) → ((work ≤ limit) × (room < count))
       there (inl a) e = let z : ⊥ = omega (arith, a .1) in absurd z
       there (inr (inl a)) e = a .0
       there (inr (inr a)) e = let z : ⊥ = omega (arith, a .1) in absurd z
 
-  pub lookup-done : (number ≡ 0) ↔ ((work ≤ limit) × (count ≤ size / 16))
+  pub lookup-done : (number ≡ 0) ↔ ((work ≤ limit) × (count ≤ room))
   lookup-done = (there ways, λ h. ap (λ (a : Answer). a .number) (d .done (h .0) (h .1) .0))
     where
-      there : Ways → (number ≡ 0) → ((work ≤ limit) × (count ≤ size / 16))
+      there : Ways → (number ≡ 0) → ((work ≤ limit) × (count ≤ room))
       there (inl a) e = let z : ⊥ = omega (arith, a .1) in absurd z
       there (inr (inl a)) e = let z : ⊥ = omega (arith, a .1) in absurd z
       there (inr (inr a)) e = a .0
+
+  -- no address outlives a record of a complete chain that uses no position twice and spells it
+  pub outlives-none : (a : List ℕ) → In a (d .addresses) → (i : ℕ) → Source (graphOf t) name a i → d .lifetime a ≤ ttlAt t i
+  outlives-none a m = d .least a m .least
+
+  -- and no other number is the least TTL of those records
+  pub lifetime-only : (a : List ℕ) → In a (d .addresses) → (k : ℕ) → Lifetime (graphOf t) name a k → k ≡ d .lifetime a
+  lifetime-only a m k l =
+      let e = d .least a m in
+      omega (arith, l .has, e .has, l .least (e .source) (e .is), e .least (l .source) (l .is))
+
+-- TTLs change nothing else: tables in order that differ in TTLs alone give the same number, figures and addresses for every call
+pub ttls-forgotten : (t u : List ℕ) → InOrder t → InOrder u → ApartInTtls t u → (name : List ℕ) (limit size room : ℕ)
+    → (lookupNumber t name limit size room ≡ lookupNumber u name limit size room)
+    × (lookupAnswer t name limit size room ≡ lookupAnswer u name limit size room)
+    × (lookupOut t name limit size room ≡ lookupOut u name limit size room)
+ttls-forgotten t u o p apart name limit size room =
+    (number-apart t u apart o p name limit size room, answer-apart t u apart o p name limit size room, out-apart t u apart o p name limit size room)
 
 -- ---- reverse
 -- the name at which the rewriting ends, or 6 or 8 exactly when they are due; an output of 255 octets, the only size that does not earn 5

@@ -1,9 +1,9 @@
--- 01's starred examples (Examples to check), one table and one statement about it, by computation. Assumes nothing.
+-- 01's starred examples (Examples to check) and two of lifetimes (T-01), one table and one statement about it, by computation. Assumes nothing.
 use Prim.Native.Nat.{ℕ, _*_, _/_, _%_}
 use mathlib.Core.Path.{_≡_, refl}
 use mathlib.Core.List.{List, [], _∷_, _++_, map}
 use lib.ListN.{replicate}
-use Rattle.octets.specs.Octets.{blank, flat}
+use Rattle.octets.specs.Octets.{blank, same, flat}
 use Rattle.octets.specs.declared.Answer.{Answer}
 use Rattle.address.specs.Address.{bitAt}
 use Rattle.address.specs.Order.{orderOf}
@@ -11,17 +11,18 @@ use Rattle.names.specs.Name.{nameOf}
 use Rattle.chains.specs.Chain.{lastLength, speltBit, spelt}
 use Rattle.chains.specs.Listing.{free, extend, paths, chainsFrom, chainsOf, workOf}
 use Rattle.chains.specs.Addresses.{insert, gather, addressesOf}
+use Rattle.chains.specs.Lifetimes.{leastTtl, lifetimeIn, lifetimeOf}
 use Rattle.a6.specs.Read.{readOf}
 use Rattle.a6.specs.Write.{writeAnswer, writeOut}
 use Rattle.a6.specs.declared.Value.{Value}
 use Rattle.plan.specs.Layout.{recordSize, addressSize, slotSize, a6, slotOf, recordOf}
 use Rattle.plan.specs.Graph.{ownsA6}
-use Rattle.forward.specs.Lookup.{lookupAnswer, lookupOut}
+use Rattle.forward.specs.Lookup.{lookupAnswer, lookupOut, lookupTtls}
 use Rattle.collapse.specs.Collapse.{collapseAnswer, collapseOut}
 use Rattle.a6plan.specs.Exports.{valueSize, valueOctets}
 
--- ---- a case: an input, and the number, the figures and the output that 01 gives for it
--- a lookup has a table, a name, a limit and an output of so many octets; a collapse the same without a limit; a reading has A6 data; a writing has
+-- ---- a case: an input, and the number, the figures, the output and the lifetimes that 01 and T-01 give for it
+-- a lookup has a table, a name, a limit and room for so many addresses; a collapse a table, a name and an output of so many octets; a reading has A6 data; a writing has
 -- a value and an output of so many octets
 pub data Input : Type 0 where
   lookup : List ℕ → List ℕ → ℕ → ℕ → Input
@@ -29,34 +30,44 @@ pub data Input : Type 0 where
   read : List ℕ → Input
   write : Value → ℕ → Input
 
--- a reading has no figures, and its output is the value that it gives
+-- a reading has no figures, and its output is the value that it gives; only a lookup has lifetimes
 pub record Case : Type 0 where
   pub input : Input
   pub number : ℕ
   pub figures : List ℕ
   pub output : List ℕ
+  pub ttls : List ℕ
 
 row : Input → ℕ → List ℕ → List ℕ → Case
-row input number figures output = record { input = input; number = number; figures = figures; output = output }
+row input number figures output = record { input = input; number = number; figures = figures; output = output; ttls = [] }
+
+lasting : Input → ℕ → List ℕ → List ℕ → List ℕ → Case
+lasting input number figures output ttls = record { input = input; number = number; figures = figures; output = output; ttls = ttls }
 
 pub record Outcome : Type 0 where
   pub number : ℕ
   pub figures : List ℕ
   pub output : List ℕ
+  pub ttls : List ℕ
 
 pub expected : Case → Outcome
-expected c = record { number = c .number; figures = c .figures; output = c .output }
+expected c = record { number = c .number; figures = c .figures; output = c .output; ttls = c .ttls }
 
 -- an answer and its output
 answered : Answer → List ℕ → Outcome
-answered a out = record { number = a .number; figures = a .count ∷ a .work ∷ []; output = out }
+answered a out = record { number = a .number; figures = a .count ∷ a .work ∷ []; output = out; ttls = [] }
+
+found : Answer → List ℕ → List ℕ → Outcome
+found a out ttls = record { number = a .number; figures = a .count ∷ a .work ∷ []; output = out; ttls = ttls }
 
 -- what the public functions give, by their definitions (Demand1)
 outcome : Input → Outcome
-unfolding answered
-outcome (lookup table name limit size) = answered (lookupAnswer table name limit size) (lookupOut table name limit size)
+unfolding answered found
+outcome (lookup table name limit room) =
+    let size = room * addressSize in
+    found (lookupAnswer table name limit size room) (lookupOut table name limit size room) (lookupTtls table name limit size room)
 outcome (collapse table name size) = answered (collapseAnswer table name size) (collapseOut table name size)
-outcome (read octets) = record { number = readOf octets .number; figures = []; output = valueOctets (readOf octets .value) }
+outcome (read octets) = record { number = readOf octets .number; figures = []; output = valueOctets (readOf octets .value); ttls = [] }
 outcome (write value size) = answered (writeAnswer value size) (writeOut value size)
 
 pub given : Case → Outcome
@@ -83,40 +94,58 @@ ip a b c d e f g h = octets a ++ octets b ++ octets c ++ octets d ++ octets e ++
     octets : ℕ → List ℕ
     octets k = k / 256 ∷ k % 256 ∷ []
 
--- ---- records: the owner, the prefix length, the address, and the target of an unfinished one
-toward : List ℕ → ℕ → List ℕ → List ℕ → List ℕ
+-- ---- records: the owner, the prefix length, the address, the target of an unfinished one, and the TTL
+toward : List ℕ → ℕ → List ℕ → List ℕ → ℕ → List ℕ
 unfolding recordOf slotOf
-toward owner l address target = recordOf a6 l address (slotOf owner) (slotOf target)
+toward owner l address target ttl = recordOf a6 l address (slotOf owner) (slotOf target) ttl
 
-finished : List ℕ → List ℕ → List ℕ
+finished : List ℕ → List ℕ → ℕ → List ℕ
 unfolding recordOf slotOf blank
-finished owner address = recordOf a6 0 address (slotOf owner) (blank slotSize)
+finished owner address ttl = recordOf a6 0 address (slotOf owner) (blank slotSize) ttl
 
 -- h.a → A6 64 ::7 p.a, and p.a → A6 0 2001:db8:0:5::
 plain : List ℕ
 unfolding flat toward finished ha pa ip
-plain = flat (toward ha 64 (ip 0 0 0 0 0 0 0 7) pa ∷ finished pa (ip 0x2001 0xdb8 0 5 0 0 0 0) ∷ [])
+plain = flat (toward ha 64 (ip 0 0 0 0 0 0 0 7) pa 300 ∷ finished pa (ip 0x2001 0xdb8 0 5 0 0 0 0) 600 ∷ [])
 
 -- h.a → A6 0 2001:db8:0:5::7, and p.a as it was
 folded : List ℕ
 unfolding flat finished ha pa ip
-folded = flat (finished ha (ip 0x2001 0xdb8 0 5 0 0 0 7) ∷ finished pa (ip 0x2001 0xdb8 0 5 0 0 0 0) ∷ [])
+folded = flat (finished ha (ip 0x2001 0xdb8 0 5 0 0 0 7) 300 ∷ finished pa (ip 0x2001 0xdb8 0 5 0 0 0 0) 600 ∷ [])
 
 -- x.a → A6 48 ::1 x.a, and x.a → A6 0 2001:db8::
 loop : List ℕ
 unfolding flat toward finished xa ip
-loop = flat (toward xa 48 (ip 0 0 0 0 0 0 0 1) xa ∷ finished xa (ip 0x2001 0xdb8 0 0 0 0 0 0) ∷ [])
+loop = flat (toward xa 48 (ip 0 0 0 0 0 0 0 1) xa 60 ∷ finished xa (ip 0x2001 0xdb8 0 0 0 0 0 0) 600 ∷ [])
 
 -- h.a → A6 48 :: p.a; p.a → A6 64 ::1 q.a and p.a → A6 0 2001:db8::; q.a → A6 0 2001:db8:1::
 ignored : List ℕ
 unfolding flat toward finished ha pa qa ip
 ignored =
     flat
-    (toward ha 48 (ip 0 0 0 0 0 0 0 0) pa
-    ∷ toward pa 64 (ip 0 0 0 0 0 0 0 1) qa
-    ∷ finished pa (ip 0x2001 0xdb8 0 0 0 0 0 0)
-    ∷ finished qa (ip 0x2001 0xdb8 1 0 0 0 0 0)
+    (toward ha 48 (ip 0 0 0 0 0 0 0 0) pa 300
+    ∷ toward pa 64 (ip 0 0 0 0 0 0 0 1) qa 0
+    ∷ finished pa (ip 0x2001 0xdb8 0 0 0 0 0 0) 200
+    ∷ finished qa (ip 0x2001 0xdb8 1 0 0 0 0 0) 0
     ∷ [])
+
+-- h.a → A6 64 ::7 p.a and h.a → A6 64 ::7 q.a; p.a → A6 0 2001:db8:0:5:: and q.a → A6 0 2001:db8:0:5::, of four TTLs
+twice : List ℕ
+unfolding flat toward finished ha pa qa ip
+twice =
+    flat
+    (toward ha 64 (ip 0 0 0 0 0 0 0 7) pa 900
+    ∷ toward ha 64 (ip 0 0 0 0 0 0 0 7) qa 800
+    ∷ finished pa (ip 0x2001 0xdb8 0 5 0 0 0 0) 200
+    ∷ finished qa (ip 0x2001 0xdb8 0 5 0 0 0 0) 400
+    ∷ [])
+
+-- h.a → A6 64 ::7 p.a; p.a → A6 64 ::9 h.a, with the smaller TTL, and p.a → A6 0 2001:db8:0:5::
+back : List ℕ
+unfolding flat toward finished ha pa ip
+back =
+    flat
+    (toward ha 64 (ip 0 0 0 0 0 0 0 7) pa 300 ∷ toward pa 64 (ip 0 0 0 0 0 0 0 9) ha 1 ∷ finished pa (ip 0x2001 0xdb8 0 5 0 0 0 0) 600 ∷ [])
 
 -- ---- A6 data: n octets with every bit set, and a value by its prefix length, address and name
 ones : ℕ → List ℕ
@@ -128,7 +157,7 @@ value l address name = record { prefix = l; address = address; name = nameOf nam
 
 -- ---- the table
 pub cases : List Case
-unfolding row plain folded loop ignored ha pa qa xa ip ones value blank valueOctets
+unfolding row lasting plain folded loop ignored twice back ha pa qa xa ip ones value blank valueOctets
 cases =
     -- 0: 16 octets of suffix
     row (read (0 ∷ ones 16)) 0 [] (valueOctets (value 0 (ones 16) []))
@@ -149,18 +178,22 @@ cases =
     ∷ row (read (129 ∷ pa)) 10 [] (blank valueSize)
     ∷ row (write (value 129 (blank 16) pa) 32) 10 (0 ∷ 0 ∷ []) (blank 32)
     -- h.a: one address, work 2; and its collapse
-    ∷ row (lookup plain ha 10 (2 * addressSize)) 0 (1 ∷ 2 ∷ []) (ip 0x2001 0xdb8 0 5 0 0 0 7 ++ blank addressSize)
+    ∷ lasting (lookup plain ha 10 2) 0 (1 ∷ 2 ∷ []) (ip 0x2001 0xdb8 0 5 0 0 0 7 ++ blank addressSize) (300 ∷ 0 ∷ [])
     ∷ row (collapse plain ha (3 * recordSize)) 0 (2 ∷ 0 ∷ []) (folded ++ blank recordSize)
     -- the loop: two addresses, work 3; limit 2; room 1; both
-    ∷ row (lookup loop xa 3 (3 * addressSize)) 0 (2 ∷ 3 ∷ []) (ip 0x2001 0xdb8 0 0 0 0 0 0 ++ ip 0x2001 0xdb8 0 0 0 0 0 1 ++ blank addressSize)
-    ∷ row (lookup loop xa 2 (3 * addressSize)) 6 (0 ∷ 0 ∷ []) (blank (3 * addressSize))
-    ∷ row (lookup loop xa 3 addressSize) 7 (0 ∷ 0 ∷ []) (blank addressSize)
-    ∷ row (lookup loop xa 2 addressSize) 6 (0 ∷ 0 ∷ []) (blank addressSize)
+    ∷ lasting (lookup loop xa 3 3) 0 (2 ∷ 3 ∷ []) (ip 0x2001 0xdb8 0 0 0 0 0 0 ++ ip 0x2001 0xdb8 0 0 0 0 0 1 ++ blank addressSize) (600 ∷ 60 ∷ 0 ∷ [])
+    ∷ lasting (lookup loop xa 2 3) 6 (0 ∷ 0 ∷ []) (blank (3 * addressSize)) (blank 3)
+    ∷ lasting (lookup loop xa 3 1) 7 (0 ∷ 0 ∷ []) (blank addressSize) (blank 1)
+    ∷ lasting (lookup loop xa 2 1) 6 (0 ∷ 0 ∷ []) (blank addressSize) (blank 1)
     -- the 64 that h.a ignores: one address, work 2; and the collapse of p.a
-    ∷ row (lookup ignored ha 10 (2 * addressSize)) 0 (1 ∷ 2 ∷ []) (ip 0x2001 0xdb8 0 0 0 0 0 0 ++ blank addressSize)
+    ∷ lasting (lookup ignored ha 10 2) 0 (1 ∷ 2 ∷ []) (ip 0x2001 0xdb8 0 0 0 0 0 0 ++ blank addressSize) (200 ∷ 0 ∷ [])
     ∷ row (collapse ignored pa (5 * recordSize)) 9 (0 ∷ 0 ∷ []) (blank (5 * recordSize))
+    -- two chains spell one address: the least TTL of the four records
+    ∷ lasting (lookup twice ha 10 2) 0 (1 ∷ 4 ∷ []) (ip 0x2001 0xdb8 0 5 0 0 0 7 ++ blank addressSize) (200 ∷ 0 ∷ [])
+    -- a record that lies only on chains that repeat another: its TTL does not count
+    ∷ lasting (lookup back ha 10 2) 0 (1 ∷ 3 ∷ []) (ip 0x2001 0xdb8 0 5 0 0 0 7 ++ blank addressSize) (300 ∷ 0 ∷ [])
     ∷ []
 
 pub all : map given cases ≡ map expected cases
-unfolding given expected cases lookupAnswer lookupOut collapseAnswer collapseOut readOf writeAnswer writeOut flat ownsA6 chainsOf chainsFrom paths extend free workOf addressesOf gather insert orderOf lastLength spelt speltBit bitAt
+unfolding given expected cases lookupAnswer lookupOut lookupTtls lifetimeOf lifetimeIn leastTtl same collapseAnswer collapseOut readOf writeAnswer writeOut flat ownsA6 chainsOf chainsFrom paths extend free workOf addressesOf gather insert orderOf lastLength spelt speltBit bitAt
 all = refl

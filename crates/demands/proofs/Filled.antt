@@ -1,10 +1,10 @@
--- The output that a definition gives has as many octets as were lent, whatever the number. Assumes nothing.
+-- The output that a definition gives has as many places as were lent, whatever the number. Assumes nothing.
 use Prim.Native.Nat.{ℕ, zero, suc, _-_, _*_, _/_, _%_, _≤_}
 use mathlib.Core.Path.{_≡_, refl, ap, _∙_, sym}
 use mathlib.Core.Bool.{not, _||_}
-use mathlib.Core.List.{List, [], _++_}
+use mathlib.Core.List.{List, [], _++_, map}
 use lib.Dec.{ltb, eqb}
-use lib.ListN.{length, length-append, getD}
+use lib.ListN.{length, length-append, length-map, getD}
 use native.Mathlib.Omega.{arith}
 use borrow.Author.Tests.{eqb-true, ltb-false, not-false}
 use Rattle.chains.proofs.ListLaws.{in-at}
@@ -19,6 +19,7 @@ use Rattle.names.proofs.AnswerLaws as names
 use Rattle.names.proofs.NameLaws.{standard-short}
 use Rattle.chains.specs.Listing.{workOf}
 use Rattle.chains.specs.Addresses.{addressesOf}
+use Rattle.chains.specs.Lifetimes.{lifetimeOf}
 use Rattle.chains.proofs.AddressesLaws.{spells-listed}
 use Rattle.chains.proofs.SpellingLaws.{spells-address}
 use Rattle.plan.specs.Layout.{recordSize, maxRecords, addressSize, nameRoom}
@@ -26,8 +27,8 @@ use Rattle.plan.specs.Check.{checkOf, InOrder}
 use Rattle.plan.specs.Graph.{graphOf}
 use Rattle.plan.proofs.LayoutLaws.{octets-length}
 use Rattle.numbering.proofs.OrderLaws.{sound-graph}
-use Rattle.search.specs.Answers.{numberOf, outputOf}
-use Rattle.forward.specs.Lookup.{lookupNumber, lookupOut}
+use Rattle.search.specs.Answers.{numberOf, outputOf, livesOf}
+use Rattle.forward.specs.Lookup.{lookupNumber, lookupOut, lookupTtls}
 use Rattle.forward.proofs.LookupLaws.{lookup-refused}
 use Rattle.rewriting.specs.Rewrite.{longRun, tooLarge}
 use Rattle.reverse.specs.Walk.{Rule, startOf, End, refused, ended}
@@ -63,24 +64,29 @@ standard-filled name room s = go (standardNumber name room) refl
         ap length (names.done-out name room e) ∙ filled (standardOf name) (length (standardOf name)) room refl (omega arith)
 
 -- ---- lookup
-pub lookup-filled : (t name : List ℕ) (limit size : ℕ) → Small t → length (lookupOut t name limit size) ≡ size
-unfolding lookupNumber lookupOut numberOf outputOf
-lookup-filled t name limit size s = go (lookupNumber t name limit size) refl
+pub lookup-filled : (t name : List ℕ) (limit size room : ℕ) → Small t → (length (lookupOut t name limit size room) ≡ size) × (length (lookupTtls t name limit size room) ≡ room)
+unfolding lookupNumber lookupOut lookupTtls numberOf outputOf livesOf
+lookup-filled t name limit size room s = go (lookupNumber t name limit size room) refl
   where
     found : List (List ℕ)
     found = addressesOf (graphOf t) name
 
-    go : (k : ℕ) → lookupNumber t name limit size ≡ k → length (lookupOut t name limit size) ≡ size
-    go (suc k) e = ap length (sym (lookup-refused t name limit size k e .1)) ∙ length-blank size
+    lives : List ℕ
+    lives = map (lifetimeOf (graphOf t) name) found
+
+    go : (k : ℕ) → lookupNumber t name limit size room ≡ k → (length (lookupOut t name limit size room) ≡ size) × (length (lookupTtls t name limit size room) ≡ room)
+    go (suc k) e = let r = lookup-refused t name limit size room k e in (ap length (sym (r .1)) ∙ length-blank size, ap length (sym (r .2)) ∙ length-blank room)
     go zero e =
         let o = earns-own (checkOf t) _ e in
         let w = earns-zero (not (wellFormed name)) 3 _ (o .1) in
-        let z = earns-zero (not (eqb (size % 16) 0)) 4 _ (w .1) in
+        let z = earns-zero (not (eqb (size % 16) 0) || not (eqb room (size / 16))) 4 _ (w .1) in
+        let q : room ≡ size / 16 = eqb-true room (size / 16) (not-false _ (or-false (not (eqb (size % 16) 0)) _ (z .0) .1)) in
         let m = earns-zero (ltb limit (workOf (graphOf t) name)) 5 _ (z .1) in
         let r = ltb-false (size / 16) (length found) (earns-zero (ltb (size / 16) (length found)) 6 _ (m .1) .0) in
         let n = flat-length 16 found (each-at 16 found (λ i h. spells-address (graphOf t) name (getD found i []) (spells-listed (graphOf t) name (sound-graph t (o .0) s) (getD found i []) .0 (in-at found i h)) .0)) in
-        let out : lookupOut t name limit size ≡ flat found ++ blank (size - length found * 16) = rw e in
-        ap length out ∙ filled (flat found) (length found * 16) size n (omega arith)
+        let out : lookupOut t name limit size room ≡ flat found ++ blank (size - length found * 16) = rw e in
+        let ttls : lookupTtls t name limit size room ≡ lives ++ blank (room - length found) = rw e in
+        (ap length out ∙ filled (flat found) (length found * 16) size n (omega arith), ap length ttls ∙ filled lives (length found) room (length-map found (lifetimeOf (graphOf t) name)) (omega (arith, q, r)))
 
 -- ---- reverse
 -- none of the results of a path is too long

@@ -12,7 +12,7 @@ use Rattle.a6plan.specs.Exports.{exportedNumber, exportedFigures, exportedOut}
 abbrev pub Promises : {A R X : Type 0} → (A → Type 0) → (A → R → X → Type 0) → A → R → X → Type 0 → Type 0
 Promises asked learnt a r x claim = asked a × (learnt a r x ↔ claim)
 
--- an answer whose number is not 0 has both figures 0, and the output of `size` octets is all zero
+-- an answer whose number is not 0 has both figures 0, and the output, or another list, of `size` places is all zero
 abbrev pub Cleared : Answer → List ℕ → ℕ → Type 0
 Cleared a out size = (a .number ≡ 0 → ⊥) → (a .count ≡ 0) × (a .work ≡ 0) × (out ≡ blank size)
 
