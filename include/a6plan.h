@@ -55,13 +55,16 @@ uint32_t a6plan_owner(const uint8_t *table, size_t table_length, size_t index,
                       uint32_t *figures, size_t figures_length);
 
 /*
- * The addresses of a name in ascending order, each once, sixteen octets each, then zeros. figures: how many, and the work.
- * 1, 2, 3: the table. 4: the name is malformed. 5: the output is no multiple of 16 octets. 6: the work is more than the limit.
- * 7: there are more addresses than room.
+ * The addresses of a name in ascending order, each once, sixteen octets each, then zeros. ttls: at the place of each address
+ * the least TTL among the records of the complete chains that spell it and use no record twice, then zeros. figures: how many
+ * addresses, and the work.
+ * 1, 2, 3: the table. 4: the name is malformed. 5: the output is no multiple of 16 octets, or ttls has another length than a
+ * sixteenth of it. 6: the work is more than the limit. 7: there are more addresses than room.
  */
 uint32_t a6plan_lookup(const uint8_t *table, size_t table_length,
                        const uint8_t *name, size_t name_length, uint32_t limit,
                        uint8_t *out, size_t out_length,
+                       uint32_t *ttls, size_t ttls_length,
                        uint32_t *figures, size_t figures_length);
 
 /*
@@ -75,9 +78,9 @@ uint32_t a6plan_reverse(const uint8_t *table, size_t table_length,
                         uint32_t *figures, size_t figures_length);
 
 /*
- * The table in which each unfinished A6 record of a name is replaced by what it makes with the records of its target, then
- * zeros. figures: how many records, and 0. Every name keeps its addresses.
- * 1, 2, 3: the table. 4: the name is malformed. 5: the output is no multiple of 532 octets.
+ * The table in which each unfinished A6 record of a name is replaced by what it makes with the records of its target, each
+ * time with the smaller TTL of the two, then zeros. figures: how many records, and 0. Every name keeps its addresses.
+ * 1, 2, 3: the table. 4: the name is malformed. 5: the output is no multiple of 536 octets.
  * 9: an ignored record could come back. 7: the new table has more records than the output has room for, or than 1,024.
  */
 uint32_t a6plan_collapse(const uint8_t *table, size_t table_length,

@@ -34,6 +34,8 @@ extern "C" {
         limit: u32,
         out: *mut u8,
         out_length: usize,
+        ttls: *mut u32,
+        ttls_length: usize,
         figures: *mut u32,
         figures_length: usize,
     ) -> u32;
@@ -94,8 +96,9 @@ pub fn owner(table: &[u8], index: usize, figures: &mut [u32]) -> u32 {
     unsafe { a6plan_owner(table.as_ptr(), table.len(), index, figures.as_mut_ptr(), figures.len()) }
 }
 
-/// The addresses of `name` in `out` if the work is at most `limit`; figures: their count and the work.
-pub fn lookup(table: &[u8], name: &[u8], limit: u32, out: &mut [u8], figures: &mut [u32]) -> u32 {
+/// The addresses of `name` in `out`, and the TTL of each in `ttls`, if the work is at most `limit`; figures: their count
+/// and the work.
+pub fn lookup(table: &[u8], name: &[u8], limit: u32, out: &mut [u8], ttls: &mut [u32], figures: &mut [u32]) -> u32 {
     // SAFETY: each pointer and length come from one live slice, and the written ones are lent mutably.
     unsafe {
         a6plan_lookup(
@@ -106,6 +109,8 @@ pub fn lookup(table: &[u8], name: &[u8], limit: u32, out: &mut [u8], figures: &m
             limit,
             out.as_mut_ptr(),
             out.len(),
+            ttls.as_mut_ptr(),
+            ttls.len(),
             figures.as_mut_ptr(),
             figures.len(),
         )

@@ -72,19 +72,18 @@ impl<T> Pair<T> {
     }
 }
 
-/// An output and figures, lent to the library and to the reference.
+/// An output, TTLs and figures, lent to the library and to the reference.
 pub struct Sides {
     pub out: Pair<u8>,
+    pub ttls: Pair<u32>,
     pub figures: Pair<u32>,
 }
 
 impl Sides {
-    /// Outputs of up to `most` octets, and up to four figures.
+    /// Outputs of up to `most` octets, up to four TTLs more than they have room for addresses, and up to four figures.
     pub fn new(most: usize) -> Sides {
-        Sides {
-            out: Pair::new(|| Lent::new(most, 0xe7, 0x9c)),
-            figures: Pair::new(|| Lent::new(4, 0xe7e7_e7e7, 0x9c9c_9c9c)),
-        }
+        let numbers = |most: usize| Pair::new(|| Lent::new(most, 0xe7e7_e7e7, 0x9c9c_9c9c));
+        Sides { out: Pair::new(|| Lent::new(most, 0xe7, 0x9c)), ttls: numbers(most / 16 + 4), figures: numbers(4) }
     }
 
     /// The number that the library's call gives with an output and figures of these lengths. It is the number of the
@@ -97,10 +96,24 @@ impl Sides {
         reference: impl FnOnce(&mut [u8], &mut [u32]) -> u32,
         about: impl Fn() -> String,
     ) -> u32 {
-        let number = library(self.out.library(out), self.figures.library(figures));
-        let expected = reference(self.out.reference(out), self.figures.reference(figures));
-        assert_eq!(number, expected, "{}, output of {out}, {figures} figures", about());
+        let library = |out: &mut [u8], _: &mut [u32], figures: &mut [u32]| library(out, figures);
+        let reference = |out: &mut [u8], _: &mut [u32], figures: &mut [u32]| reference(out, figures);
+        self.number_with_ttls([out, 0, figures], library, reference, about)
+    }
+
+    /// The same for calls that have TTLs, between the output and the figures.
+    pub fn number_with_ttls(
+        &mut self,
+        [out, ttls, figures]: [usize; 3],
+        library: impl FnOnce(&mut [u8], &mut [u32], &mut [u32]) -> u32,
+        reference: impl FnOnce(&mut [u8], &mut [u32], &mut [u32]) -> u32,
+        about: impl Fn() -> String,
+    ) -> u32 {
+        let number = library(self.out.library(out), self.ttls.library(ttls), self.figures.library(figures));
+        let expected = reference(self.out.reference(out), self.ttls.reference(ttls), self.figures.reference(figures));
+        assert_eq!(number, expected, "{}, output of {out}, {ttls} TTLs, {figures} figures", about());
         assert!(self.out.agree(), "{}: the output is not the reference's: {:02x?}", about(), self.out.shown());
+        assert!(self.ttls.agree(), "{}: the TTLs are not the reference's: {:?}", about(), self.ttls.shown());
         assert!(self.figures.agree(), "{}: the figures are not the reference's: {:?}", about(), self.figures.shown());
         assert!(number == 0 || self.blank(), "{}: a refusal leaves zeros", about());
         number
@@ -108,7 +121,8 @@ impl Sides {
 
     /// What the library left is zeros alone.
     pub fn blank(&self) -> bool {
-        self.out.shown().iter().all(|octet| *octet == 0) && self.figures.shown().iter().all(|figure| *figure == 0)
+        let mut numbers = self.ttls.shown().iter().chain(self.figures.shown());
+        numbers.all(|number| *number == 0) && self.out.shown().iter().all(|octet| *octet == 0)
     }
 
     /// The output that the library left, cut after `size` octets; the rest of it is zeros.

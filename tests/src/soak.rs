@@ -48,6 +48,12 @@ fn alone(octets: &[u8]) -> Box<[u8]> {
     octets.into()
 }
 
+/// A call in words.
+fn about(function: usize, tables: &[Box<[u8]>], names: &[Box<[u8]>]) -> String {
+    let tables: Vec<usize> = tables.iter().map(|table| table.len()).collect();
+    format!("{}, tables of {tables:?} octets, names {names:02x?}", FUNCTIONS[function])
+}
+
 impl Soak {
     fn new(seed: u64) -> Soak {
         Soak {
@@ -134,11 +140,7 @@ impl Soak {
         library: impl FnOnce(&mut [u8], &mut [u32]) -> u32,
         reference: impl FnOnce(&mut [u8], &mut [u32]) -> u32,
     ) -> u32 {
-        let about = || {
-            let tables: Vec<usize> = self.tables.iter().map(|table| table.len()).collect();
-            format!("{}, tables of {tables:?} octets, names {:02x?}", FUNCTIONS[self.function], self.names)
-        };
-        self.sides.number(lengths, library, reference, about)
+        self.sides.number(lengths, library, reference, || about(self.function, &self.tables, &self.names))
     }
 
     fn standard(&mut self, name: &[u8], figures: usize) -> u32 {
@@ -177,8 +179,14 @@ impl Soak {
         // The largest limit only where the work is small.
         let largest = if table.len() <= 5 * plan::RECORD { u32::MAX } else { 3_000 };
         let limit = self.random.pick(&[0, 1, 2, 5, 20, largest, largest]);
-        let library = |out: &mut [u8], figures: &mut [u32]| ffi::lookup(table, name, limit, out, figures);
-        self.both([out, figures], library, |out, figures| reference::forward::lookup(table, name, limit, out, figures))
+        let ttls = if self.random.once_in(16) { self.random.below(out / 16 + 3) } else { out / 16 };
+        let library =
+            |out: &mut [u8], ttls: &mut [u32], figures: &mut [u32]| ffi::lookup(table, name, limit, out, ttls, figures);
+        let reference = |out: &mut [u8], ttls: &mut [u32], figures: &mut [u32]| {
+            reference::forward::lookup(table, name, limit, out, ttls, figures)
+        };
+        let about = || about(self.function, &self.tables, &self.names);
+        self.sides.number_with_ttls([out, ttls, figures], library, reference, about)
     }
 
     fn reverse(&mut self, table: &[u8], figures: usize) -> u32 {

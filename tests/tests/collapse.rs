@@ -3,7 +3,7 @@
 use a6plan_tests::generate::examples::{self, address};
 use a6plan_tests::generate::forward::{self as make, Tangle};
 use a6plan_tests::generate::names::{self, Name};
-use a6plan_tests::generate::plan::{self, a6_record, dname_record, name, realistic};
+use a6plan_tests::generate::plan::{self, a6_record, dname_record, name, realistic, with_ttls, HOUR, LONGEST};
 use a6plan_tests::generate::Random;
 use a6plan_tests::lent;
 use a6plan_tests::met::Met;
@@ -63,7 +63,7 @@ fn a6(owner: &str, length: u8, suffix: &str, target: &str) -> [u8; RECORD] {
 fn a_host_takes_the_bits_of_its_prefix() {
     let collapsed = Sides::new().collapsed(&examples::host(), &name("h.a"));
     let expected = [a6("h.a", 0, "2001:db8:0:5::7", ""), a6("p.a", 0, "2001:db8:0:5::", "")];
-    assert_eq!(collapsed, expected.concat());
+    assert_eq!(collapsed, with_ttls(expected.concat(), &[300, 300]));
 }
 
 /// 01, Errors we have met, 5: without the test the host would gain an address.
@@ -171,6 +171,37 @@ fn the_records_that_take_a_place_stand_in_table_order() {
         table[7],
     ];
     assert_eq!(sides.collapsed(&table.concat(), &name("x")), expected.concat());
+}
+
+/// Each record that takes a place has the smaller TTL of the two that it is made of; all others keep theirs.
+#[test]
+fn the_smaller_ttl_of_the_two_is_taken() {
+    let mut sides = Sides::new();
+    let table = [
+        a6("x", 64, "::1", "p"),
+        a6("x", 0, "::9", ""),
+        a6("p", 0, "2001:db8::", ""),
+        a6("p", 48, "::", "q"),
+        a6("p", 65, "::", "q"),
+        dname_record(&name("x"), &name("p")),
+        a6("q", 0, "::", ""),
+    ];
+    let folded = [a6("x", 0, "2001:db8::1", ""), a6("x", 48, "::1", "q")];
+    let expected = [&folded[..], &table[1..]].concat().concat();
+    for (own, others, taken) in [
+        (5, [3, 7], [3, 5]),
+        (5, [7, 3], [5, 3]),
+        (5, [5, 5], [5, 5]),
+        (0, [LONGEST, 1], [0, 0]),
+        (LONGEST, [0, LONGEST], [0, LONGEST]),
+        (256, [255, 65_536], [255, 256]),
+    ] {
+        let [one, two] = others;
+        let collapsed = sides.collapsed(&with_ttls(table.concat(), &[own, 1, one, two, 0, 0, HOUR]), &name("x"));
+        let [first, second] = taken;
+        let expected = with_ttls(expected.clone(), &[first, second, 1, one, two, 0, 0, HOUR]);
+        assert!(collapsed == expected, "{own} with {others:?}");
+    }
 }
 
 /// Every pair of prefix lengths: which bits come from which record, and which record is too long.

@@ -39,17 +39,20 @@ fn compiled(example: &str) -> PathBuf {
     program
 }
 
+/// What both lookups print: the address and its TTL.
+const LOOKUP: &str = "2001:db8:0:5::7 300\n";
+
 #[test]
 fn a_lookup_from_c() {
     assert_shown("c", "examples/lookup.c");
     compiled("lookup");
-    assert_eq!(printed_as_readme_says("target/lookup-c"), "2001:db8:0:5::7\n");
+    assert_eq!(printed_as_readme_says("target/lookup-c"), LOOKUP);
 }
 
 #[test]
 fn a_lookup_from_rust() {
     assert_shown("rust", "examples/lookup.rs");
-    assert_eq!(printed_as_readme_says("target/lookup-rs"), "2001:db8:0:5::7\n");
+    assert_eq!(printed_as_readme_says("target/lookup-rs"), LOOKUP);
 }
 
 #[test]

@@ -1,21 +1,18 @@
-//! `a6plan_lookup` and the program `lookup` against the reference and the plain rules (01, Chains).
+//! `a6plan_lookup` against the reference and the plain rules (01, Chains; T-01).
 
 use a6plan_tests::generate::examples::{self, address};
 use a6plan_tests::generate::forward::{self as make, Tangle};
 use a6plan_tests::generate::names::{self, Name};
-use a6plan_tests::generate::plan::{self, a6_record, dname_record, name};
+use a6plan_tests::generate::plan::{self, a6_record, dname_record, name, with_ttls, HOUR, LONGEST};
 use a6plan_tests::generate::Random;
 use a6plan_tests::lent;
 use a6plan_tests::met::Met;
-use a6plan_tests::plain::forward::{self as plain, Graph};
+use a6plan_tests::plain::forward::{self as plain, Graph, Least};
 use a6plan_tests::plain::names::{encode, whole};
 use a6plan_tests::reference::forward as reference;
 use a6plan_tests::reference::plan::{MOST, RECORD};
 use a6plan_tests::{ffi, text};
 use std::collections::BTreeSet;
-use std::io::Write;
-use std::path::Path;
-use std::process::{Command, Stdio};
 use std::thread;
 
 struct Sides(lent::Sides);
@@ -25,17 +22,20 @@ impl Sides {
         Sides(lent::Sides::new(16 * 4096))
     }
 
-    /// The library's number; all that it left is the reference's.
-    fn number(&mut self, table: &[u8], name: &[u8], limit: u32, out: usize, figures: usize) -> u32 {
-        let library = |out: &mut [u8], figures: &mut [u32]| ffi::lookup(table, name, limit, out, figures);
-        let reference = |out: &mut [u8], figures: &mut [u32]| reference::lookup(table, name, limit, out, figures);
+    /// The library's number for an output, TTLs and figures of these lengths; all that it left is the reference's.
+    fn number(&mut self, table: &[u8], name: &[u8], limit: u32, lengths: [usize; 3]) -> u32 {
+        let library =
+            |out: &mut [u8], ttls: &mut [u32], figures: &mut [u32]| ffi::lookup(table, name, limit, out, ttls, figures);
+        let reference = |out: &mut [u8], ttls: &mut [u32], figures: &mut [u32]| {
+            reference::lookup(table, name, limit, out, ttls, figures)
+        };
         let about = || format!("{name:02x?} in {} records, limit {limit}", table.len() / RECORD);
-        self.0.number([out, figures], library, reference, about)
+        self.0.number_with_ttls(lengths, library, reference, about)
     }
 
-    /// The number with whole addresses as room and two figures.
+    /// The number with room for so many addresses and TTLs, and two figures.
     fn within(&mut self, table: &[u8], name: &[u8], limit: u32, room: usize) -> u32 {
-        self.number(table, name, limit, 16 * room, 2)
+        self.number(table, name, limit, [16 * room, room, 2])
     }
 
     /// The addresses and the work of a lookup that is accepted.
@@ -53,10 +53,23 @@ impl Sides {
         (addresses, work)
     }
 
-    /// The library's answers are those of the plain rules, which say the addresses and the work, with limits and rooms
-    /// at these, one less, zero and large. Gives the number of calls.
-    fn around(&mut self, table: &[u8], name: &[u8], addresses: &BTreeSet<u128>, work: u32) -> usize {
-        let count = addresses.len();
+    /// The TTLs that the library left.
+    fn ttls(&self) -> &[u32] {
+        let (ttls, rest) = self.0.ttls.shown().split_at(self.0.counted()[0] as usize);
+        assert!(rest.iter().all(|ttl| *ttl == 0), "zeros after the TTLs");
+        ttls
+    }
+
+    /// The addresses of a lookup that is accepted, with their TTLs.
+    fn lasting(&mut self, table: &[u8], name: &[u8]) -> Vec<(u128, u32)> {
+        let (addresses, _) = self.found(table, name);
+        addresses.into_iter().zip(self.ttls().iter().copied()).collect()
+    }
+
+    /// The library's answers are those of the plain rules, which say the addresses, their TTLs and the work, with
+    /// limits and rooms at these, one less, zero and large. Gives the number of calls.
+    fn around(&mut self, table: &[u8], name: &[u8], least: &Least, work: u32) -> usize {
+        let count = least.len();
         let mut limits = vec![(work, count), (u32::MAX, count + 3)];
         if work > 0 {
             limits.extend([(work - 1, count), (0, 0)]);
@@ -75,7 +88,8 @@ impl Sides {
             assert_eq!(self.within(table, name, *limit, *room), expected, "limit {limit}, room {room}");
             if expected == 0 {
                 let (shown, counted) = self.shown();
-                assert!(shown.iter().eq(addresses), "{shown:x?} for {addresses:x?}");
+                assert!(shown.iter().eq(least.keys()), "{shown:x?} for {least:x?}");
+                assert!(self.ttls().iter().eq(least.values()), "{:?} for {least:x?}", self.ttls());
                 assert_eq!(counted, work);
             }
         }
@@ -91,8 +105,9 @@ fn addresses(texts: &[&str]) -> Vec<u128> {
 
 #[test]
 fn a_host_and_its_prefix_give_one_address_and_work_2() {
-    let found = Sides::new().found(&examples::host(), &name("h.a"));
-    assert_eq!(found, (addresses(&["2001:db8:0:5::7"]), 2));
+    let mut sides = Sides::new();
+    assert_eq!(sides.found(&examples::host(), &name("h.a")), (addresses(&["2001:db8:0:5::7"]), 2));
+    assert_eq!(sides.ttls(), [300], "of the prefix, which lasts less long than the host");
 }
 
 #[test]
@@ -158,7 +173,27 @@ fn the_glue_of_section_5_1_2_gives_the_same_addresses_in_each_option() {
 
 // The numbers and their order.
 
-/// Tables, names and outputs, in order and not, limits and rooms, with the numbers that they earn.
+/// Lengths of outputs and TTLs: those that go together, TTLs one too many and one too few, as many as octets, and
+/// outputs of no whole number of addresses.
+const OUTPUTS: [(usize, usize); 15] = [
+    (0, 0),
+    (16, 1),
+    (32, 2),
+    (0, 1),
+    (16, 0),
+    (16, 2),
+    (32, 1),
+    (32, 3),
+    (16, 16),
+    (1, 0),
+    (1, 1),
+    (15, 1),
+    (17, 1),
+    (17, 2),
+    (100, 6),
+];
+
+/// Tables, names, outputs and TTLs, in order and not, limits and rooms, with the numbers that they earn.
 #[test]
 fn the_first_number_that_is_earned_is_given() {
     let mut sides = Sides::new();
@@ -168,15 +203,15 @@ fn the_first_number_that_is_earned_is_given() {
         [(name("h.a"), 0), (vec![], 4), (vec![1, b'h', 0, 0], 4), (vec![0xc0, 0], 4), (vec![65, 1, 0x40, 0], 4)];
     for (table, of_table) in &tables {
         for (name, of_name) in &names {
-            for out in [0, 16, 32, 1, 15, 17, 100] {
+            for (out, ttls) in OUTPUTS {
                 for figures in [2, 0, 1, 3, 4] {
                     for limit in [0, 2, u32::MAX] {
-                        let of_output = if out % 16 != 0 || figures != 2 { 5 } else { 0 };
+                        let of_output = if out != 16 * ttls || figures != 2 { 5 } else { 0 };
                         let of_work = if !table.is_empty() && limit < 2 { 6 } else { 0 };
                         let of_room = if !table.is_empty() && out == 0 { 7 } else { 0 };
                         let earned = [*of_table, *of_name, of_output, of_work, of_room];
                         let first = earned.into_iter().find(|number| *number != 0).unwrap_or(0);
-                        assert_eq!(sides.number(table, name, limit, out, figures), first);
+                        assert_eq!(sides.number(table, name, limit, [out, ttls, figures]), first);
                     }
                 }
             }
@@ -284,6 +319,167 @@ fn every_pair_of_prefix_lengths() {
     }
 }
 
+// TTLs.
+
+/// A chain of three records, with the least TTL at each place of it.
+#[test]
+fn an_address_has_the_least_ttl_of_its_chain() {
+    let mut sides = Sides::new();
+    let (h, p, q) = (name("h"), name("p"), name("q"));
+    let chain = [a6_record(&h, 64, 7, &p), a6_record(&p, 32, 5 << 64, &q), a6_record(&q, 0, 3 << 96, &[])].concat();
+    let mut least = |ttls: [u32; 3]| sides.lasting(&with_ttls(chain.clone(), &ttls), &h);
+    let spelt = 3 << 96 | 5 << 64 | 7;
+    for ttls in [[1, 2, 3], [1, 3, 2], [2, 1, 3], [3, 1, 2], [2, 3, 1], [3, 2, 1], [1, 1, 1]] {
+        assert_eq!(least(ttls), [(spelt, 1)], "{ttls:?}");
+    }
+    for ttl in [0, 1, 255, 256, 65_535, 65_536, LONGEST - 1, LONGEST] {
+        for ttls in [[ttl, LONGEST, LONGEST], [LONGEST, ttl, LONGEST], [LONGEST, LONGEST, ttl]] {
+            assert_eq!(least(ttls), [(spelt, ttl)], "{ttls:?}");
+        }
+    }
+}
+
+/// Two chains to one address, and one to another that shares a record with the second of them.
+#[test]
+fn an_address_of_two_chains_has_the_least_ttl_of_both() {
+    let mut sides = Sides::new();
+    let (h, p, q) = (name("h"), name("p"), name("q"));
+    let table = [
+        a6_record(&h, 64, 7, &p),
+        a6_record(&h, 64, 7, &q),
+        a6_record(&p, 0, 5 << 64, &[]),
+        a6_record(&q, 0, 5 << 64, &[]),
+        a6_record(&q, 0, 6 << 64, &[]),
+    ]
+    .concat();
+    for (ttls, one, other) in [
+        ([10, 20, 30, 40, 50], 10, 20),
+        ([20, 10, 30, 40, 50], 10, 10),
+        ([30, 40, 10, 20, 50], 10, 40),
+        ([30, 40, 20, 10, 50], 10, 40),
+        ([30, 40, 50, 20, 10], 20, 10),
+        ([LONGEST, LONGEST, LONGEST, 0, LONGEST], 0, LONGEST),
+    ] {
+        let lasting = sides.lasting(&with_ttls(table.clone(), &ttls), &h);
+        assert_eq!(lasting, [(5 << 64 | 7, one), (6 << 64 | 7, other)], "{ttls:?}");
+    }
+}
+
+/// y leads back to x, whose one record is then in use: for x that way does not count, for y it does. A way round that
+/// comes to no record again counts, though it adds no bit.
+#[test]
+fn a_record_on_chains_with_repeats_alone_does_not_count() {
+    let mut sides = Sides::new();
+    let (x, y, prefix) = (name("x"), name("y"), address("2001:db8::"));
+    let leading_to = |target: &[u8]| {
+        let table = [a6_record(&x, 48, 1, &y), a6_record(&y, 48, 2, target), a6_record(&y, 0, prefix, &[])];
+        with_ttls(table.concat(), &[100, 1, 200])
+    };
+    let back = leading_to(&x);
+    assert_eq!(sides.lasting(&back, &x), [(prefix | 1, 100)]);
+    assert_eq!(sides.shown().1, 3);
+    assert_eq!(sides.lasting(&back, &y), [(prefix, 200), (prefix | 2, 1)]);
+    assert_eq!(sides.shown().1, 4);
+    assert_eq!(sides.lasting(&leading_to(&y), &x), [(prefix | 1, 1)]);
+}
+
+/// A record that the referrer ignores, one that leads nowhere, those of another name, and DNAMEs.
+#[test]
+fn records_on_no_complete_chain_do_not_count() {
+    let (h, p, q) = (name("h"), name("p"), name("q"));
+    let table = [
+        a6_record(&p, 65, 0, &q),
+        a6_record(&p, 64, 0, &name("nobody")),
+        a6_record(&q, 0, 5 << 64, &[]),
+        dname_record(&h, &q),
+        dname_record(&p, &q),
+        a6_record(&h, 64, 7, &p),
+        a6_record(&p, 0, 5 << 64, &[]),
+    ]
+    .concat();
+    let table = with_ttls(table, &[0, 0, 0, 0, 0, 500, 400]);
+    assert_eq!(Sides::new().lasting(&table, &h), [(5 << 64 | 7, 400)]);
+}
+
+/// The lists hold other octets before the call, and zeros after it.
+#[test]
+fn ttls_one_too_many_or_one_too_few_are_5() {
+    let mut sides = Sides::new();
+    let (table, owner) = (examples::loop_of_one(), name("x.a"));
+    for room in 0..=64_usize {
+        for ttls in [Some(room + 1), room.checked_sub(1)].into_iter().flatten() {
+            assert_eq!(sides.number(&table, &owner, 3, [16 * room, ttls, 2]), 5, "{ttls} TTLs for {room} addresses");
+            assert!(sides.0.blank());
+        }
+    }
+}
+
+/// 6, 7 and 5 for the figures may come after addresses and TTLs have been found.
+#[test]
+fn every_refusal_leaves_zeros_in_both_lists() {
+    let mut sides = Sides::new();
+    let mut met = Met::default();
+    let (good, owner) = (examples::loop_of_one(), name("x.a"));
+    let mut call = |table: &[u8], name: &[u8], limit: u32, lengths: [usize; 3]| {
+        let number = sides.number(table, name, limit, lengths);
+        assert_eq!(sides.0.blank(), number != 0, "{number}");
+        met.count(number);
+    };
+    for (table, _) in plan::earning(&good) {
+        call(&table, &owner, 3, [32, 2, 2]);
+    }
+    call(&good, &owner[1..], 3, [32, 2, 2]);
+    call(&good, &owner, 3, [32, 1, 2]);
+    call(&good, &owner, 3, [32, 2, 1]);
+    call(&good, &owner, 2, [32, 2, 2]);
+    call(&good, &owner, 3, [16, 1, 2]);
+    met.are("lookup of a loop", &[0, 1, 2, 3, 4, 5, 6, 7], 0);
+}
+
+type Lookup = fn(&[u8], &[u8], u32, &mut [u8], &mut [u32], &mut [u32]) -> u32;
+
+/// The addresses and TTLs of every name in small tables are those of all lists of different records that happen to be
+/// complete chains.
+fn enumerated(lookup: Lookup) {
+    const NAMES: usize = 20_000;
+    const ROOM: usize = 256;
+    let mut random = Random::new(37);
+    let (mut made, mut tangle) = (Name::new(), Tangle::default());
+    let (mut names, mut differ) = (0, 0);
+    while names < NAMES {
+        if random.once_in(2) {
+            make::tangle(&mut random, &mut made, 6, &mut tangle);
+        } else {
+            make::layers(&mut random, &mut made, 6, &mut tangle);
+        }
+        let graph = Graph::new(&tangle.table);
+        for name in &tangle.names {
+            let (mut out, mut ttls, mut figures) = ([0; 16 * ROOM], [0; ROOM], [0; 2]);
+            assert_eq!(lookup(&tangle.table, name, u32::MAX, &mut out, &mut ttls, &mut figures), 0);
+            let (addresses, _) = out.as_chunks();
+            let found = addresses.iter().map(|octets| u128::from_be_bytes(*octets)).zip(ttls);
+            let units = whole(name).expect("a name");
+            let least = graph.enumerated(&units);
+            assert!(found.take(figures[0] as usize).eq(least.clone()), "{name:02x?}: {least:x?}");
+            assert_eq!(graph.chains(&units, 10_000).expect("little work").1, least);
+            differ += (least.values().collect::<BTreeSet<_>>().len() > 1) as usize;
+            names += !least.is_empty() as usize;
+        }
+    }
+    println!("{names} names with addresses, {differ} of them with different TTLs");
+    assert!(differ > NAMES / 20);
+}
+
+#[test]
+fn the_library_has_the_ttls_of_all_lists_that_are_chains() {
+    enumerated(ffi::lookup);
+}
+
+#[test]
+fn the_reference_has_the_ttls_of_all_lists_that_are_chains() {
+    enumerated(reference::lookup);
+}
+
 // 6 and 7.
 
 /// The work of these is beyond 32 bits, and most of them beyond any number a machine holds. The search stops at the
@@ -362,6 +558,12 @@ fn a_chain_of_1024_records_is_followed_to_its_end() {
         assert_eq!(sides.within(&tangle.table, &tangle.names[0], MOST as u32 - 1, 1), 6);
         let (_, work) = sides.found(&tangle.table, &tangle.names[MOST / 2]);
         assert_eq!(work, MOST as u32 / 2);
+        for place in [0, 1, MOST / 2, MOST - 1] {
+            let mut ttls = [HOUR; MOST];
+            ttls[place] = 5;
+            sides.found(&with_ttls(tangle.table.clone(), &ttls), &tangle.names[0]);
+            assert_eq!(sides.ttls(), [5], "the least TTL at {place}");
+        }
     }
 }
 
@@ -373,8 +575,8 @@ const THREAD: usize = 64 << 10;
 fn a_chain_of_1024_records_needs_at_most_a_mebioctet_of_stack() {
     for tangle in longest_chains() {
         let call = move || {
-            let (mut out, mut figures) = (vec![0; 64 * 16], vec![0; 2]);
-            ffi::lookup(&tangle.table, &tangle.names[0], 1_000_000, &mut out, &mut figures)
+            let (mut out, mut ttls, mut figures) = (vec![0; 64 * 16], vec![0; 64], vec![0; 2]);
+            ffi::lookup(&tangle.table, &tangle.names[0], 1_000_000, &mut out, &mut ttls, &mut figures)
         };
         let thread = thread::Builder::new().stack_size((1 << 20) + THREAD).spawn(call).expect("a thread");
         let number = thread.join().expect("the call comes back");
@@ -384,14 +586,14 @@ fn a_chain_of_1024_records_needs_at_most_a_mebioctet_of_stack() {
 
 // Generated tables.
 
-const GENERATED: usize = 200_000;
+const GENERATED: usize = 300_000;
 /// Chains that the plain rules count before they give up.
 const COUNTED: usize = 1_000;
 
-/// Small tables full of loops: the addresses by the fixed point, the work by counting, limits and rooms around them,
-/// for every name in the table.
+/// Small tables full of loops: the addresses by the fixed point, the TTLs and the work by counting, limits and rooms
+/// around them, for every name in the table.
 #[test]
-fn generated_tangles_have_the_addresses_and_the_work_of_the_plain_rules() {
+fn generated_tangles_have_the_addresses_the_ttls_and_the_work_of_the_plain_rules() {
     let mut sides = Sides::new();
     let mut random = Random::new(32);
     let (mut made, mut tangle) = (Name::new(), Tangle::default());
@@ -405,11 +607,12 @@ fn generated_tangles_have_the_addresses_and_the_work_of_the_plain_rules() {
             let addresses = graph.addresses(&units);
             let name = &names::respelt(&mut random, name);
             match graph.chains(&units, COUNTED) {
-                Some((work, without_repeats)) => {
-                    assert_eq!(addresses, without_repeats, "no address is lost without repeats");
-                    calls += sides.around(table, name, &addresses, work as u32);
-                    several += (addresses.len() > 1) as usize;
+                Some((work, least)) => {
+                    assert!(addresses.iter().eq(least.keys()), "no address is lost without repeats");
+                    calls += sides.around(table, name, &least, work as u32);
+                    several += (least.len() > 1) as usize;
                     repeats += (work > table.len() / RECORD) as usize;
+                    cases += 1;
                 }
                 None => {
                     let limit = random.pick(&[0, COUNTED as u32 / 2, COUNTED as u32]);
@@ -422,18 +625,17 @@ fn generated_tangles_have_the_addresses_and_the_work_of_the_plain_rules() {
                     beyond += 1;
                 }
             }
-            cases += 1;
         }
     }
     println!("{cases} names, {calls} calls: {beyond} beyond counting, {several} several addresses, {repeats} loops");
     assert!(beyond > GENERATED / 100 && several > GENERATED / 6 && repeats > GENERATED / 6);
 }
 
-/// Library, reference and plain rules agree on every octet, and every number comes up: tables damaged and not, names
-/// good and malformed, outputs and figures of any length, any limit.
+/// Library, reference and plain rules agree on every octet and every TTL, and every number comes up: tables damaged and
+/// not, names good and malformed, outputs, TTLs and figures of any length, any limit.
 #[test]
 fn generated_calls_agree_octet_for_octet() {
-    const CALLS: usize = 150_000;
+    const CALLS: usize = 300_000;
     let mut sides = Sides::new();
     let mut random = Random::new(33);
     let (mut made, mut tangle) = (Name::new(), Tangle::default());
@@ -454,17 +656,19 @@ fn generated_calls_agree_octet_for_octet() {
         }
         let limit = random.pick(&[0, 1, 2, 3, 5, 8, 20, 100, COUNTED as u32, COUNTED as u32]);
         let out = if random.once_in(12) { random.below(100) } else { 16 * random.pick(&[0, 1, 1, 2, 3, 5, 10, 64]) };
+        let ttls = if random.once_in(16) { random.below(out / 16 + 3) } else { out / 16 };
         let figures = if random.once_in(16) { random.below(5) } else { 2 };
-        let number = sides.number(table, &name, limit, out, figures);
+        let number = sides.number(table, &name, limit, [out, ttls, figures]);
         met.count(number);
-        assert_eq!(sides.0.answer(number), plain::lookup(table, &name, limit, out, figures), "case {case}");
+        let left = (sides.0.answer(number), sides.0.ttls.shown().to_vec());
+        assert_eq!(left, plain::lookup(table, &name, limit, [out, ttls, figures]), "case {case}");
     }
     met.are("lookup", &[0, 1, 2, 3, 4, 5, 6, 7], CALLS / 100);
 }
 
 /// Tables in which chains are up to 1,024 records long.
 #[test]
-fn generated_deep_tables_have_the_addresses_and_the_work_of_the_plain_rules() {
+fn generated_deep_tables_have_the_addresses_the_ttls_and_the_work_of_the_plain_rules() {
     let mut sides = Sides::new();
     let mut random = Random::new(34);
     let mut tangle = Tangle::default();
@@ -476,10 +680,9 @@ fn generated_deep_tables_have_the_addresses_and_the_work_of_the_plain_rules() {
         for step in [0, 0, 1, random.below(tangle.names.len())] {
             let name = &tangle.names[step.min(tangle.names.len() - 1)];
             let units = whole(name).expect("a name");
-            if let Some((work, without_repeats)) = graph.chains(&units, 20_000) {
-                let addresses = graph.addresses(&units);
-                assert_eq!(addresses, without_repeats);
-                sides.around(&tangle.table, name, &addresses, work as u32);
+            if let Some((work, least)) = graph.chains(&units, 20_000) {
+                assert!(graph.addresses(&units).iter().eq(least.keys()));
+                sides.around(&tangle.table, name, &least, work as u32);
                 deepest = deepest.max(work);
                 counted += 1;
             } else {
@@ -506,8 +709,8 @@ fn large_tables_agree() {
     assert!(hosts > 20 && sites > 100);
     for name in plan.hosts.iter().step_by(9).chain(plan.sites.iter().step_by(50)) {
         let units = whole(name).expect("a name");
-        let (work, addresses) = graph.chains(&units, 1_000).expect("little work");
-        sides.around(&plan.table, name, &addresses, work as u32);
+        let (work, least) = graph.chains(&units, 1_000).expect("little work");
+        sides.around(&plan.table, name, &least, work as u32);
     }
     let mut random = Random::new(35);
     let (mut made, mut tangle) = (Name::new(), Tangle::default());
@@ -527,165 +730,4 @@ fn the_plain_graph_lists_the_names_of_its_records() {
     let names: Vec<Vec<u8>> = graph.names().iter().map(|units| encode(units)).collect();
     assert_eq!(names[..2], [name("N.X.EXAMPLE"), name("SUBNET-1.IP6.X.EXAMPLE")]);
     assert_eq!(names.len(), 11);
-}
-
-// The program.
-
-/// Records that the program reads, its work limit and its room.
-const RECORDS: usize = 120;
-const LIMIT: u32 = 10_000;
-const ROOM: usize = 64;
-
-/// What the program prints for this input (01, Program lookup).
-fn printed(input: &[u8]) -> String {
-    let refused = |number: u32| format!("refused {number}\n");
-    let Some((slot, table)) = input.split_at_checked(256) else { return refused(4) };
-    let (name, fill) = slot[1..].split_at(slot[0] as usize);
-    if fill.iter().any(|octet| *octet != 0) {
-        return refused(4);
-    }
-    if table.len() > RECORDS * RECORD {
-        return refused(1);
-    }
-    let (mut out, mut figures) = ([0; 16 * ROOM], [0; 2]);
-    let number = reference::lookup(table, name, LIMIT, &mut out, &mut figures);
-    if number != 0 {
-        return refused(number);
-    }
-    let mut text = String::new();
-    for octets in out.chunks(16).take(figures[0] as usize) {
-        text.extend(octets.iter().map(|octet| format!("{octet:02x}")));
-        text.push('\n');
-    }
-    text + &format!("done {} {}\n", figures[0], figures[1])
-}
-
-/// Runs the program on this input and compares all that it prints.
-fn run(program: &Path, input: &[u8]) -> String {
-    let mut child =
-        Command::new(program).stdin(Stdio::piped()).stdout(Stdio::piped()).spawn().expect("the program starts");
-    let mut stdin = child.stdin.take().expect("its input");
-    // A program that has seen enough may stop reading.
-    let _ = stdin.write_all(input);
-    drop(stdin);
-    let output = child.wait_with_output().expect("the program ends");
-    let shown = String::from_utf8(output.stdout).expect("its output is text");
-    assert_eq!(shown, printed(input), "an input of {} octets", input.len());
-    shown
-}
-
-fn slot(name: &[u8]) -> Vec<u8> {
-    let mut slot = vec![name.len() as u8];
-    slot.extend(name);
-    slot.resize(256, 0);
-    slot
-}
-
-/// The program where it has been built; `rt ci` builds it.
-fn program() -> Option<&'static Path> {
-    let program = Path::new(concat!(env!("CARGO_MANIFEST_DIR"), "/../target/bin/lookup"));
-    if program.exists() {
-        return Some(program);
-    }
-    println!("the program lookup is not there and is not run");
-    None
-}
-
-#[test]
-fn the_program_prints_what_01_says() {
-    let expected = [
-        (examples::host(), "h.a", "20010db8000000050000000000000007\ndone 1 2\n"),
-        (
-            examples::loop_of_one(),
-            "x.a",
-            "20010db8000000000000000000000000\n20010db8000000000000000000000001\ndone 2 3\n",
-        ),
-        (examples::ignored(), "h.a", "20010db8000000000000000000000000\ndone 1 2\n"),
-        (vec![], "h.a", "done 0 0\n"),
-        (make::one_name(8, 8).table, "one.name", "refused 6\n"),
-        (make::one_name(1, 64).table, "one.name", "refused 7\n"),
-        (make::one_name(0, 64).table[1..].to_vec(), "one.name", "refused 1\n"),
-    ];
-    for (table, name, text) in expected {
-        let input = [slot(&plan::name(name)), table].concat();
-        assert_eq!(printed(&input), text);
-        if let Some(program) = program() {
-            assert_eq!(run(program, &input), text);
-        }
-    }
-}
-
-/// The order of the program's own refusals: too short or badly filled, then too long, then lookup's.
-#[test]
-fn the_program_refuses_in_order() {
-    let good = [slot(&name("h.a")), examples::host()].concat();
-    let mut unfilled = good.clone();
-    unfilled[255] = 1;
-    let full = [slot(&name("x.a")), examples::loop_of_one().repeat(RECORDS / 2)].concat();
-    let mut long_unfilled = [&full[..], &[0]].concat();
-    long_unfilled[200] = 1;
-    let mut empty_name = [slot(&[]), examples::host()].concat();
-    let malformed = [slot(&[3, b'a', 0]), examples::host()].concat();
-    let mut inputs = vec![
-        (vec![], 4),
-        (good[..255].to_vec(), 4),
-        (unfilled, 4),
-        (long_unfilled, 4),
-        ([&full[..], &[0]].concat(), 1),
-        (full.repeat(3), 1),
-        ([&good[..], &[0]].concat(), 1),
-        (empty_name.clone(), 4),
-        (malformed, 4),
-        (full.clone(), 6),
-    ];
-    // An empty or malformed name gives way to what is wrong with the table.
-    empty_name[256 + 3] = 1;
-    inputs.push((empty_name.clone(), 2));
-    empty_name.pop();
-    inputs.push((empty_name, 1));
-    for (input, number) in inputs {
-        assert_eq!(printed(&input), format!("refused {number}\n"));
-        if let Some(program) = program() {
-            run(program, &input);
-        }
-    }
-}
-
-#[test]
-fn the_program_agrees_on_generated_input() {
-    let Some(program) = program() else { return };
-    let mut random = Random::new(36);
-    let (mut made, mut tangle) = (Name::new(), Tangle::default());
-    let (mut done, mut refused) = (0, 0);
-    for case in 0..500 {
-        if case % 8 == 0 {
-            make::deep(&mut random, RECORDS, &mut tangle);
-        } else {
-            make::tangle(&mut random, &mut made, 20, &mut tangle);
-        }
-        let Tangle { table, names } = &mut tangle;
-        plan::spoil(&mut random, &mut made, table);
-        let mut input = slot(&names[random.below(names.len())]);
-        match random.below(16) {
-            0 => {
-                names::any(&mut random, &mut made);
-                input = slot(&made.octets[..made.octets.len().min(255)]);
-            }
-            1 => input[random.below(256)] ^= 1 << random.below(8),
-            2 => input[0] = input[0].wrapping_add(random.pick(&[1, 255])),
-            _ => {}
-        }
-        input.extend_from_slice(table);
-        if random.once_in(40) {
-            input.truncate(random.below(300));
-        }
-        if random.once_in(40) {
-            input.resize(random.pick(&[64_096, 64_097, 70_000, 256 + 121 * RECORD]), 0);
-        }
-        let shown = run(program, &input);
-        done += shown.contains("done") as usize;
-        refused += shown.starts_with("refused") as usize;
-    }
-    println!("the program: {done} done, {refused} refused");
-    assert!(done > 150 && refused > 50 && done + refused == 500);
 }

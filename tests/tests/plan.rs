@@ -2,7 +2,9 @@
 
 use a6plan_tests::ffi;
 use a6plan_tests::generate::names::Name;
-use a6plan_tests::generate::plan::{self as make, a6_record, dname_record, name, record, A6, DNAME, OWNER, TARGET};
+use a6plan_tests::generate::plan::{
+    self as make, a6_record, dname_record, name, put_ttl, record, with_ttls, A6, DNAME, LONGEST, OWNER, TARGET, TTL,
+};
 use a6plan_tests::generate::Random;
 use a6plan_tests::lent;
 use a6plan_tests::met::Met;
@@ -155,7 +157,7 @@ fn good_records_keep_the_layout() {
 fn every_octet_of_a_record_set_to_every_other_value() {
     for good in good_records() {
         let mut record = good;
-        let mut fields = [0; 6];
+        let mut fields = [0; 7];
         for at in 0..RECORD {
             for octet in 0..=255 {
                 record[at] = octet;
@@ -170,7 +172,7 @@ fn every_octet_of_a_record_set_to_every_other_value() {
             }
             record[at] = good[at];
         }
-        for field in [Field::Type, Field::Length, Field::Zero, Field::Owner, Field::Target] {
+        for field in [Field::Type, Field::Length, Field::Zero, Field::Owner, Field::Target, Field::Ttl] {
             assert!(fields[field as usize] > 0, "{field:?} is at fault somewhere");
         }
     }
@@ -243,12 +245,50 @@ fn a_target_is_there_exactly_when_it_should_be() {
 /// At prefix length 0 every octet of an A6 record's target slot is zero.
 #[test]
 fn every_octet_of_an_unwanted_target_slot_is_refused_when_set() {
-    for at in TARGET..RECORD {
+    for at in TARGET..TTL {
         for octet in [1, 0x40, 0xff] {
             let mut record = a6_record(&name("a"), 0, 7, &[]);
             record[at] = octet;
             assert_eq!(check(&record), 2, "octet {at}");
         }
+    }
+}
+
+/// Of every kind of record, alone and among others, TTLs up to the largest are taken and larger ones refused, though
+/// all else is in order.
+#[test]
+fn ttls_up_to_the_largest_are_taken_and_larger_ones_refused() {
+    let all = good_records().concat();
+    let ttls = [0, 1, 255, 256, 65_536, 1 << 24, LONGEST - 1, LONGEST, LONGEST + 1, 3 << 30, u32::MAX - 1, u32::MAX];
+    for (index, good) in good_records().iter().enumerate() {
+        for ttl in ttls {
+            let expected = if ttl <= LONGEST { 0 } else { 2 };
+            let record = with_ttls(good.to_vec(), &[ttl]);
+            assert_eq!(check(&record), expected, "TTL {ttl} alone");
+            assert_eq!(plain::fault(&record), (expected == 2).then_some(Field::Ttl), "TTL {ttl}");
+            let mut table = all.clone();
+            put_ttl(&mut table[index * RECORD..(index + 1) * RECORD], ttl);
+            assert_eq!(check(&table), expected, "TTL {ttl} of record {index}");
+        }
+    }
+}
+
+/// A TTL too large is the last fault that a record can have, and is 2 like the others: after 1 and before 3.
+#[test]
+fn a_ttl_too_large_is_found_after_the_other_fields_and_before_shared_owners() {
+    let shared = dname_record(&name("s.a"), &name("t.a"));
+    let lasting = with_ttls(shared.to_vec(), &[u32::MAX]);
+    for table in [[&lasting[..], &shared], [&shared, &lasting], [&lasting, &lasting]] {
+        let table = table.concat();
+        assert_eq!(check(&table), 2);
+        assert_eq!(check(&table[1..]), 1);
+    }
+    let fields = [Field::Type, Field::Length, Field::Zero, Field::Address, Field::Owner, Field::Target];
+    for (at, field) in [0, 2, 3, OWNER - 1, OWNER, TARGET].into_iter().zip(fields) {
+        let mut record = lasting.clone();
+        record[at] ^= 1;
+        assert_eq!(check(&record), 2, "{field:?}");
+        assert_eq!(plain::fault(&record), Some(field));
     }
 }
 
@@ -314,7 +354,7 @@ fn one_bad_record_anywhere_in_a_full_table_is_found() {
         assert_eq!(table.len(), MOST * RECORD);
         assert_eq!(check(&table), 0);
         for index in [0, 1, 2, 255, 256, 510, 511, 512, 1_021, 1_022, 1_023] {
-            for at in [0, 1, 2, 3, OWNER, OWNER + 1, TARGET - 1, TARGET, RECORD - 1] {
+            for at in [0, 1, 2, 3, OWNER, OWNER + 1, TARGET - 1, TARGET, TTL - 1, TTL] {
                 let at = index * RECORD + at;
                 let good = table[at];
                 table[at] ^= 0xc1;
@@ -478,7 +518,7 @@ fn no_owner_is_shown_of_a_table_that_earns_1_2_or_3() {
     let mut sides = Sides::new();
     let good = plain_table(3);
     let mut bad_last = good.clone();
-    bad_last[3 * RECORD - 1] = 1;
+    put_ttl(&mut bad_last[2 * RECORD..], LONGEST + 1);
     let shared = dname_record(&name("a"), &name("b"));
     let tables = [
         (good[..3 * RECORD - 1].to_vec(), 1),
@@ -519,7 +559,7 @@ fn generated_tables_are_judged_alike() {
     let mut random = Random::new(21);
     let (mut made, mut table) = (Name::new(), Vec::new());
     let mut met = Met::default();
-    let mut fields = [0; 6];
+    let mut fields = [0; 7];
     for case in 0..GENERATED {
         make::any_table(&mut random, &mut made, &mut table);
         let number = check(&table);

@@ -45,8 +45,8 @@ const STACK: Option<f64> = Some(1024.0);
 const GROWING: [usize; 3] = [64, 256, MOST];
 /// The limit of lookups: so many chains are met before they are refused.
 const CHAINS: u32 = 1_000_000;
-/// Octets of output for lookups: room for 128 addresses.
-const ROOM: usize = 128 * 16;
+/// Addresses that lookups have room for.
+const ROOM: usize = 128;
 /// Names, data or values in a set.
 const SET: usize = 1_000;
 
@@ -86,7 +86,7 @@ type Read = fn(&[u8], &mut [u8]) -> u32;
 type Write = fn(&[u8], &mut [u8], &mut [u32]) -> u32;
 type Check = fn(&[u8]) -> u32;
 type Owner = fn(&[u8], usize, &mut [u32]) -> u32;
-type Lookup = fn(&[u8], &[u8], u32, &mut [u8], &mut [u32]) -> u32;
+type Lookup = fn(&[u8], &[u8], u32, &mut [u8], &mut [u32], &mut [u32]) -> u32;
 type Reverse = fn(&[u8], &[u8], u8, &mut [u8], &mut [u32]) -> u32;
 type Collapse = fn(&[u8], &[u8], &mut [u8], &mut [u32]) -> u32;
 
@@ -147,9 +147,11 @@ fn owner(table: &'static [u8], index: usize) -> [Side; 2] {
 /// Lookups that give this number.
 fn lookup(table: &'static [u8], names: &'static [Vec<u8>], limit: u32, number: u32) -> [Side; 2] {
     let exports: [Lookup; 2] = [ffi::lookup, reference::forward::lookup];
-    sides(exports, ROOM, move |lookup, out, figures| {
+    let ttls = keep(RefCell::new([0; ROOM]));
+    sides(exports, 16 * ROOM, move |lookup, out, figures| {
         for name in names {
-            assert_eq!(lookup(black_box(table), black_box(name), limit, out, figures), number);
+            let ttls = &mut *ttls.borrow_mut();
+            assert_eq!(lookup(black_box(table), black_box(name), limit, out, ttls, figures), number);
         }
     })
 }
@@ -212,8 +214,8 @@ impl Rows {
     /// call with limit 0 does alone, is not counted.
     fn chain(&mut self, subject: impl Into<String>, graph: Tangle) {
         let Tangle { table, names } = keep(graph);
-        let mut figures = [0; 2];
-        let number = reference::forward::lookup(table, &names[0], CHAINS, &mut [0; ROOM], &mut figures);
+        let (mut out, mut ttls, mut figures) = ([0; 16 * ROOM], [0; ROOM], [0; 2]);
+        let number = reference::forward::lookup(table, &names[0], CHAINS, &mut out, &mut ttls, &mut figures);
         let parts = if number == 6 { CHAINS } else { figures[1] } as usize;
         let sides = lookup(table, &names[..1], CHAINS, number);
         let beside = Some(lookup(table, &names[..1], 0, 6));

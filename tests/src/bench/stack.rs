@@ -33,8 +33,8 @@ pub fn try_one(words: &[String]) {
     let lookup = [ffi::lookup, reference::forward::lookup][side];
     let (table, name) = chain(records);
     let call = move || {
-        let (mut out, mut figures) = (vec![0; 16], vec![0; 2]);
-        assert_eq!(lookup(&table, &name, records as u32, &mut out, &mut figures), 0);
+        let (mut out, mut ttls, mut figures) = (vec![0; 16], vec![0; 1], vec![0; 2]);
+        assert_eq!(lookup(&table, &name, records as u32, &mut out, &mut ttls, &mut figures), 0);
     };
     let thread = thread::Builder::new().stack_size(size << 10).spawn(call).expect("a thread");
     thread.join().expect("the call comes back");

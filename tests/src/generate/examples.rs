@@ -1,6 +1,6 @@
 //! The tables of 01's examples and of RFC 2874, section 5.
 
-use super::plan::{a6_record, dname_record, RECORD};
+use super::plan::{a6_record, dname_record, with_ttls, HOUR, RECORD};
 use crate::text::name;
 use std::net::Ipv6Addr;
 
@@ -18,9 +18,10 @@ fn a6_table(records: &[(&str, u8, &str, &str)]) -> Vec<u8> {
     records.iter().flat_map(record).collect()
 }
 
-/// 01: a host and its prefix.
+/// 01: a host and its prefix, whose record does not last as long.
 pub fn host() -> Vec<u8> {
-    a6_table(&[("h.a", 64, "::7", "p.a"), ("p.a", 0, "2001:db8:0:5::", "")])
+    let table = a6_table(&[("h.a", 64, "::7", "p.a"), ("p.a", 0, "2001:db8:0:5::", "")]);
+    with_ttls(table, &[HOUR, 300])
 }
 
 /// 01: a record that leads back to its owner.

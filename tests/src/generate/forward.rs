@@ -1,7 +1,7 @@
 //! Tables for lookups and collapses: small ones full of loops, deep ones, and those whose work is beyond counting.
 
 use super::names::{self, Name};
-use super::plan::{a6_record, dname_record, name, MOST, RECORD};
+use super::plan::{a6_record, any_ttls, dname_record, name, usual_ttls, MOST, RECORD};
 use super::{a6, Random};
 
 /// A table and the names in it, owners and targets.
@@ -112,6 +112,7 @@ pub fn tangle(random: &mut Random, made: &mut Name, most: usize, tangle: &mut Ta
         };
         table.extend(record);
     }
+    any_ttls(random, table);
     if random.once_in(8) {
         names.push(name("dangling.a"));
     }
@@ -147,6 +148,7 @@ pub fn layers(random: &mut Random, made: &mut Name, most: usize, tangle: &mut Ta
         let owner = &names[random.below(names.len())];
         table.extend(dname_record(owner, &names[0]));
     }
+    any_ttls(random, table);
 }
 
 /// The name of step `number` of a deep table.
@@ -202,6 +204,7 @@ pub fn deep(random: &mut Random, records: usize, tangle: &mut Tangle) {
     random.shuffle(&mut made);
     table.clear();
     table.extend(made.concat());
+    any_ttls(random, table);
 }
 
 // Tables whose work is beyond counting.
@@ -220,6 +223,7 @@ pub fn two_each(records: usize) -> Tangle {
             });
         }
     }
+    usual_ttls(&mut table);
     Tangle { table, names }
 }
 
@@ -233,6 +237,7 @@ pub fn one_name(loops: usize, finished: usize) -> Tangle {
     for number in 1..=finished {
         table.extend(a6_record(&owner, 0, (number as u128) << 64, &[]));
     }
+    usual_ttls(&mut table);
     Tangle { table, names: vec![owner] }
 }
 

@@ -3,12 +3,17 @@
 use super::names::{self, Name};
 use super::{a6, Random};
 
-pub const RECORD: usize = 532;
+pub const RECORD: usize = 536;
 pub const MOST: usize = 1024;
 pub const OWNER: usize = 20;
 pub const TARGET: usize = 276;
+pub const TTL: usize = RECORD - 4;
 pub const A6: u8 = 38;
 pub const DNAME: u8 = 39;
+/// The largest TTL.
+pub const LONGEST: u32 = 2_147_483_647;
+/// The TTL of records that are made without another one.
+pub const HOUR: u32 = 3_600;
 
 /// The octets of a name of ordinary labels, written with points between them.
 pub fn name(labels: &str) -> Vec<u8> {
@@ -20,7 +25,7 @@ pub fn name(labels: &str) -> Vec<u8> {
     name.octets
 }
 
-/// A record. The target is empty for an A6 record without one.
+/// A record that lasts an hour. The target is empty for an A6 record without one.
 pub fn record(kind: u8, length: u8, address: u128, owner: &[u8], target: &[u8]) -> [u8; RECORD] {
     let mut record = [0; RECORD];
     record[1] = kind;
@@ -30,6 +35,7 @@ pub fn record(kind: u8, length: u8, address: u128, owner: &[u8], target: &[u8]) 
         record[slot] = name.len() as u8;
         record[slot + 1..slot + 1 + name.len()].copy_from_slice(name);
     }
+    put_ttl(&mut record, HOUR);
     record
 }
 
@@ -40,6 +46,49 @@ pub fn a6_record(owner: &[u8], length: u8, address: u128, target: &[u8]) -> [u8;
 
 pub fn dname_record(owner: &[u8], target: &[u8]) -> [u8; RECORD] {
     record(DNAME, 0, 0, owner, target)
+}
+
+// TTLs.
+
+/// Gives a record this TTL.
+pub fn put_ttl(record: &mut [u8], ttl: u32) {
+    record[TTL..].copy_from_slice(&ttl.to_be_bytes());
+}
+
+/// A table with these TTLs, one for each record.
+pub fn with_ttls(mut table: Vec<u8>, ttls: &[u32]) -> Vec<u8> {
+    assert_eq!(table.len(), ttls.len() * RECORD, "a TTL for each record");
+    for (record, ttl) in table.chunks_exact_mut(RECORD).zip(ttls) {
+        put_ttl(record, *ttl);
+    }
+    table
+}
+
+/// Gives each record of a table one of these TTLs.
+fn mix_ttls(random: &mut Random, table: &mut [u8], ttls: &[u32]) {
+    for record in table.chunks_exact_mut(RECORD) {
+        put_ttl(record, random.pick(ttls));
+    }
+}
+
+/// TTLs as plans have them, from five minutes to a day.
+pub fn usual_ttls(table: &mut [u8]) {
+    mix_ttls(&mut Random::new(4), table, &[300, 900, HOUR, 4 * HOUR, 24 * HOUR]);
+}
+
+/// Any TTLs, few of them in one table, so that some are equal.
+pub fn any_ttls(random: &mut Random, table: &mut [u8]) {
+    let ttls: Vec<u32> = (0..random.between(1, 8)).map(|_| some_ttl(random)).collect();
+    mix_ttls(random, table, &ttls);
+}
+
+/// Some TTL: one at the edges, a small one, or any.
+fn some_ttl(random: &mut Random) -> u32 {
+    match random.below(4) {
+        0 => random.pick(&[0, 1, LONGEST - 1, LONGEST]),
+        1 => random.below(10) as u32,
+        _ => random.number() as u32 & LONGEST,
+    }
 }
 
 // The full tables.
@@ -144,6 +193,7 @@ pub fn realistic() -> Realistic {
             addresses.push(address.to_be_bytes());
         }
     }
+    usual_ttls(&mut table);
     Realistic {
         table,
         hosts: (0..HOSTS).map(host_name).collect(),
@@ -204,12 +254,15 @@ fn some_name(random: &mut Random, made: &mut Name) -> Vec<u8> {
 pub fn good_record(random: &mut Random, made: &mut Name) -> [u8; RECORD] {
     let owner = some_name(random, made);
     let target = some_name(random, made);
-    if random.once_in(2) {
-        return dname_record(&owner, &target);
-    }
-    let length = a6::length(random);
-    let address = (random.number() as u128) << 64 | random.number() as u128;
-    a6_record(&owner, length, address, if length == 0 { &[] } else { &target })
+    let mut record = if random.once_in(2) {
+        dname_record(&owner, &target)
+    } else {
+        let length = a6::length(random);
+        let address = (random.number() as u128) << 64 | random.number() as u128;
+        a6_record(&owner, length, address, if length == 0 { &[] } else { &target })
+    };
+    put_ttl(&mut record, some_ttl(random));
+    record
 }
 
 /// A table of `records` records that keep the layout; some share their owners.
@@ -250,12 +303,16 @@ pub fn earning(good: &[u8]) -> Vec<(Vec<u8>, u32)> {
     let shared = dname_record(&name("s.a"), &name("t.a"));
     let mut bad = good.to_vec();
     bad[3] = 1;
+    let mut lasting = good.to_vec();
+    put_ttl(&mut lasting[good.len() - RECORD..], LONGEST + 1);
     vec![
         (good.to_vec(), 0),
         (good[1..].to_vec(), 1),
         (good[..good.len() - 1].to_vec(), 1),
         (good.repeat(MOST * RECORD / good.len() + 1), 1),
         (bad, 2),
+        ([&lasting[..], &shared, &shared].concat(), 2),
+        (lasting, 2),
         ([good, &shared, &shared].concat(), 3),
     ]
 }
@@ -281,7 +338,7 @@ pub fn damage(random: &mut Random, made: &mut Name, record: &mut [u8]) {
     let slot = random.pick(&[OWNER, TARGET]);
     let named = record[slot] as usize;
     let length = record[2] as usize;
-    match random.below(16) {
+    match random.below(17) {
         0 => record[random.below(2)] = random.octet(),
         1 => record[1] = A6 + DNAME - record[1],
         2 => record[2] = random.octet(),
@@ -301,6 +358,7 @@ pub fn damage(random: &mut Random, made: &mut Name, record: &mut [u8]) {
             record[slot] = fits as u8;
             record[slot + 1..slot + 1 + fits].copy_from_slice(&made.octets[..fits]);
         }
+        15 => put_ttl(record, random.pick(&[LONGEST + 1, LONGEST + 2, u32::MAX])),
         _ => record[random.below(RECORD)] = random.octet(),
     }
 }

@@ -1,7 +1,7 @@
 //! Tables of DNAMEs along the walk of an address.
 
 use super::names::{self, Name};
-use super::plan::{a6_record, dname_record, name};
+use super::plan::{a6_record, any_ttls, dname_record, name};
 use super::Random;
 use crate::plain::names::{encode, whole, Unit};
 use crate::plain::reverse::{start, step, Dname};
@@ -103,4 +103,5 @@ pub fn walk(random: &mut Random, made: &mut Name, walk: &mut Walk) {
         }
         table.extend(dname_record(&encode(owner), &encode(target)));
     }
+    any_ttls(random, table);
 }

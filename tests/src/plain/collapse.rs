@@ -1,6 +1,7 @@
 //! Collapse (01, Collapse of a name X), record by record and bit by bit.
 
 use super::names::{self, Unit};
+use super::plan::RECORD;
 use super::{answer, demand, plan, Answer};
 
 /// A record: its octets and what they say.
@@ -33,8 +34,9 @@ impl Record<'_> {
             };
             octets.push((0..8).map(bit).sum());
         }
-        octets.extend(&self.octets[20..276]);
-        octets.extend(&other.octets[276..]);
+        octets.extend(plan::owner_slot(self.octets));
+        octets.extend(plan::target_slot(other.octets));
+        octets.extend(plan::ttl(self.octets).min(plan::ttl(other.octets)).to_be_bytes());
         octets
     }
 }
@@ -50,10 +52,10 @@ impl Plan<'_> {
             octets,
             a6: octets[1] == 38,
             length: octets[2] as usize,
-            owner: plan::name_in(&octets[20..276]).expect("an owner"),
-            target: plan::name_in(&octets[276..]),
+            owner: plan::name_in(plan::owner_slot(octets)).expect("an owner"),
+            target: plan::name_in(plan::target_slot(octets)),
         };
-        Plan { records: table.chunks(532).map(read).collect() }
+        Plan { records: table.chunks(RECORD).map(read).collect() }
     }
 
     /// The table that the rule makes.
@@ -92,11 +94,11 @@ pub fn collapse(table: &[u8], name: &[u8], out: usize, figures: usize) -> Answer
     let given = || {
         plan::in_order(table)?;
         let name = names::whole(name).ok_or(4_u32)?;
-        demand(5, out.is_multiple_of(532) && figures == 2)?;
+        demand(5, out.is_multiple_of(RECORD) && figures == 2)?;
         let plan = Plan::new(table);
         demand(9, !plan.is_reviving(&name))?;
         let folded = plan.fold(&name);
-        let records = folded.len() / 532;
+        let records = folded.len() / RECORD;
         demand(7, folded.len() <= out && records <= 1024)?;
         Ok((folded, [records as u32, 0]))
     };

@@ -1,4 +1,4 @@
-//! The plan table (01, The plan table), field by field and by pairs.
+//! The plan table (01, The plan table; T-01), field by field and by pairs.
 
 use super::names::{self, Unit};
 
@@ -11,6 +11,25 @@ pub enum Field {
     Address,
     Owner,
     Target,
+    Ttl,
+}
+
+/// Octets of a record.
+pub const RECORD: usize = 536;
+
+/// The owner slot of a record.
+pub fn owner_slot(record: &[u8]) -> &[u8] {
+    &record[20..276]
+}
+
+/// The target slot of a record.
+pub fn target_slot(record: &[u8]) -> &[u8] {
+    &record[276..RECORD - 4]
+}
+
+/// The TTL of a record (T-01): its last four octets, the high one first.
+pub fn ttl(record: &[u8]) -> u32 {
+    record[RECORD - 4..].iter().fold(0, |number, octet| number * 256 + *octet as u32)
 }
 
 /// The units of the name in a slot: a name in standard form that fills its length, zeros after it.
@@ -39,29 +58,28 @@ pub fn fault(record: &[u8]) -> Option<Field> {
     if (0..zeros).any(|bit| record[4 + bit / 8] & 128 >> (bit % 8) != 0) {
         return Some(Field::Address);
     }
-    if name_in(&record[20..276]).is_none() {
+    if name_in(owner_slot(record)).is_none() {
         return Some(Field::Owner);
     }
-    let target = &record[276..532];
+    let target = target_slot(record);
     let good = if !dname && length == 0 { target == [0; 256] } else { name_in(target).is_some() };
-    if good {
-        None
-    } else {
-        Some(Field::Target)
+    if !good {
+        return Some(Field::Target);
     }
+    (ttl(record) > 2_147_483_647).then_some(Field::Ttl)
 }
 
 /// The answer of `a6plan_check`.
 pub fn check(table: &[u8]) -> u32 {
-    if !table.len().is_multiple_of(532) || table.len() / 532 > 1024 {
+    if !table.len().is_multiple_of(RECORD) || table.len() / RECORD > 1024 {
         return 1;
     }
-    let records: Vec<&[u8]> = table.chunks(532).collect();
+    let records: Vec<&[u8]> = table.chunks(RECORD).collect();
     if records.iter().any(|record| fault(record).is_some()) {
         return 2;
     }
     let owners: Vec<Option<Vec<Unit>>> =
-        records.iter().filter(|record| record[1] == 39).map(|record| name_in(&record[20..276])).collect();
+        records.iter().filter(|record| record[1] == 39).map(|record| name_in(owner_slot(record))).collect();
     for (index, owner) in owners.iter().enumerate() {
         if owners[..index].contains(owner) {
             return 3;
@@ -83,9 +101,9 @@ pub fn owner(table: &[u8], index: usize, figures: usize) -> (u32, Vec<u32>) {
     if figures != 2 {
         return (5, vec![0; figures]);
     }
-    if check(table) != 0 || index >= table.len() / 532 {
+    if check(table) != 0 || index >= table.len() / RECORD {
         return (0, vec![0, 0]);
     }
-    let offset = index * 532 + 21;
+    let offset = index * RECORD + 21;
     (0, vec![offset as u32, table[offset - 1] as u32])
 }

@@ -18,8 +18,8 @@ pub type Dname = (Vec<Unit>, Vec<Unit>);
 /// The DNAMEs of a table in order.
 pub fn dnames(table: &[u8]) -> Vec<Dname> {
     let name = |slot: &[u8]| plan::name_in(slot).expect("a name");
-    let dnames = table.chunks(532).filter(|record| record[1] == 39);
-    dnames.map(|record| (name(&record[20..276]), name(&record[276..]))).collect()
+    let dnames = table.chunks(plan::RECORD).filter(|record| record[1] == 39);
+    dnames.map(|record| (name(plan::owner_slot(record)), name(plan::target_slot(record)))).collect()
 }
 
 /// The DNAME of most units among those with the name strictly beneath their owners.

@@ -70,7 +70,8 @@ pub fn collapse(table: &[u8], name: &[u8], out: &mut [u8], figures: &mut [u32]) 
         for follower in followers(table, &index, record) {
             let address = plan::address_of(follower) & first | bits;
             let length = plan::length_of(follower);
-            plan::put_a6(&mut out[to..], length, address, owner, plan::target_of(follower));
+            let ttl = plan::ttl_of(record).min(plan::ttl_of(follower));
+            plan::put_a6(&mut out[to..], length, address, owner, plan::target_of(follower), ttl);
             to += RECORD;
         }
     }

@@ -3,7 +3,7 @@
 use super::names::{self, SLOT};
 
 /// Octets of a record.
-pub const RECORD: usize = 532;
+pub const RECORD: usize = 536;
 /// The most records in a table.
 pub const MOST: usize = 1024;
 /// Where the fields of a record stand.
@@ -12,6 +12,9 @@ const ZERO: usize = 3;
 const ADDRESS: usize = 4;
 const OWNER: usize = 20;
 const TARGET: usize = 276;
+const TTL: usize = RECORD - 4;
+/// The longest TTL, in seconds.
+const LONGEST: u32 = 2_147_483_647;
 /// The types.
 pub const A6: u16 = 38;
 pub const DNAME: u16 = 39;
@@ -47,6 +50,11 @@ pub fn target_of(record: &[u8]) -> &[u8; SLOT] {
     slot(record, TARGET)
 }
 
+#[inline(always)]
+pub fn ttl_of(record: &[u8]) -> u32 {
+    u32::from_be_bytes(record[TTL..RECORD].try_into().expect("four octets"))
+}
+
 /// The first bits of an address set, for each number of them.
 pub const FIRST: [u128; 129] = {
     let mut masks = [u128::MAX; 129];
@@ -60,13 +68,14 @@ pub const FIRST: [u128; 129] = {
 
 /// Writes an A6 record.
 #[inline(always)]
-pub fn put_a6(record: &mut [u8], length: u8, address: u128, owner: &[u8; SLOT], target: &[u8; SLOT]) {
+pub fn put_a6(record: &mut [u8], length: u8, address: u128, owner: &[u8; SLOT], target: &[u8; SLOT], ttl: u32) {
     record[..2].copy_from_slice(&A6.to_be_bytes());
     record[LENGTH] = length;
     record[ZERO] = 0;
     record[ADDRESS..OWNER].copy_from_slice(&address.to_be_bytes());
     record[OWNER..TARGET].copy_from_slice(owner);
-    record[TARGET..RECORD].copy_from_slice(target);
+    record[TARGET..TTL].copy_from_slice(target);
+    record[TTL..RECORD].copy_from_slice(&ttl.to_be_bytes());
 }
 
 /// Record `index` of a table.
@@ -92,6 +101,7 @@ fn keeps_layout(record: &[u8]) -> bool {
         && record[ZERO] == 0
         && names::in_slot(owner_of(record)).is_some()
         && if kind == A6 && length == 0 { names::is_blank(target) } else { names::in_slot(target).is_some() }
+        && ttl_of(record) <= LONGEST
 }
 
 /// Places in a list of owners; a power of two, and twice the most records.
