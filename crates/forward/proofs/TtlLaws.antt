@@ -1,21 +1,18 @@
 -- Tables that differ in TTLs alone have the same chains, and so the same numbers, figures and addresses. Assumes nothing.
-use Prim.Native.Nat.{ℕ, _/_, _<_}
-use mathlib.Core.Path.{_≡_, ap, ap₂, _∙_, sym}
-use mathlib.Core.Bool.{Bool, _&&_}
+use Prim.Native.Nat.{ℕ, _/_}
+use mathlib.Core.Path.{_≡_, ap, _∙_}
+use mathlib.Core.Bool.{_&&_}
 use mathlib.Core.List.{List}
 use lib.Dec.{eqb}
-use Rattle.octets.specs.declared.Answer.{Answer}
 use Rattle.names.specs.Standard.{sameName}
-use Rattle.chains.specs.Graph.{Graph}
 use Rattle.chains.specs.Listing.{workOf}
 use Rattle.chains.specs.Addresses.{addressesOf}
 use Rattle.chains.specs.Renaming.{Alike, Renamed}
 use Rattle.chains.proofs.RenamingLaws.{work-renamed, addresses-renamed}
-use Rattle.plan.specs.Layout.{a6, typeOf, ownerSlot, nameIn, isA6, countOf, recordAt, targetAt}
-use Rattle.plan.specs.Check.{checkOf, InOrder}
+use Rattle.plan.specs.Layout.{a6, nameIn, isA6, recordAt, targetAt}
+use Rattle.plan.specs.Check.{InOrder}
 use Rattle.plan.specs.Graph.{ownsA6, graphOf}
 use Rattle.plan.proofs.RecordLaws.{type-front, prefix-front, address-front, owner-front, target-front}
-use Rattle.search.specs.Answers.{numberOf, answerOf, outputOf}
 use Rattle.forward.specs.Lookup.{lookupNumber, lookupAnswer, lookupOut}
 use Rattle.forward.specs.Demand.{ApartInTtls}
 use Rattle.forward.proofs.LookupLaws.{number-like, answer-like, output-like}

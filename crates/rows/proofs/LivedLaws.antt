@@ -2,8 +2,8 @@
 use Prim.Native.Nat.{ℕ, zero, suc, _+_, _-_, _*_, _≤_, _<_, min}
 use mathlib.Core.Path.{_≡_, refl, sym, ap, subst, _∙_}
 use mathlib.Core.Logic.{_⊎_, inl, inr, ⊎-elim}
-use mathlib.Core.Bool.{true, false}
-use mathlib.Core.List.{List, [], _∷_, _++_, map, append-assoc}
+use mathlib.Core.Bool.{false}
+use mathlib.Core.List.{List, [], _∷_, _++_, map}
 use native.Mathlib.Omega.{arith}
 use lib.ListN.{length, getD, set, take, drop, length-map, length-drop}
 use lib.Seq.{take-at, append-snoc, take-append-le, drop-append-le, drop-append-add}
@@ -14,14 +14,14 @@ use Rattle.address.specs.declared.Order.{Order}
 use Rattle.address.specs.declared.Order.the-variants.{Before, Same, After}
 use Rattle.address.specs.Order.{orderOf, Precedes}
 use Rattle.address.proofs.OrderLaws.{same-equal, equal-same, after-precedes, precedes-irreflexive, precedes-transitive}
-use Rattle.chains.specs.Lists.{In, pick}
+use Rattle.chains.specs.Lists.{In}
 use Rattle.chains.specs.Graph.{maxTtl}
 use Rattle.chains.specs.Addresses.{Ascending, choose, insert}
 use Rattle.chains.proofs.ListLaws.{pick-true, pick-false}
 use Rattle.chains.proofs.AddressesLaws.{insert-in}
 use Rattle.rows.specs.Rows.{putAt, lowered, Kept, keepIn, Holds, shortened, Lived}
 use Rattle.rows.proofs.RowsLaws.{keep-full}
-use Rattle.rows.proofs.KeepingLaws.{rank, rank-within, insert-found, insert-new, again, longer, added, past, keep-cases}
+use Rattle.rows.proofs.KeepingLaws.{rank, rank-within, insert-found, longer, keep-cases}
 
 -- what precedes v, or follows it, is not v
 before-other : (a v : List ℕ) → Precedes a v → a ≡ v → ⊥

@@ -1,6 +1,5 @@
 -- `rows::inside::lower` meets its contract. Assumes nothing.
 use borrow.Author.Needs.{needs}
-use native.Mathlib.Omega.{arith}
 use Rattle.rows.proofs.RowsLaws.{lowered-less, lowered-none}
 use Rattle.rows.proofs.inside.lower.Statement.{statement}
 use Rattle.rows.proofs.inside.lower.Tie as tie
