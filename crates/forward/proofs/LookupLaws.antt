@@ -29,10 +29,11 @@ use Rattle.plan.specs.Graph.{graphOf}
 use Rattle.numbering.specs.Graph.{ownsNumbered, numbered}
 use Rattle.numbering.proofs.NumberLaws.{number-most}
 use Rattle.numbering.proofs.NamesLaws.{own-listed, target-listed, number-standard}
-use Rattle.numbering.proofs.OrderLaws.{names-fit}
+use Rattle.numbering.proofs.OrderLaws.{names-fit, target-short}
 use Rattle.numbering.proofs.GraphLaws.{lookup-renamed, lifetime-number}
 use Rattle.forward.specs.Gather.{noOwner, Halved}
-use Rattle.search.specs.Search.{Records, records}
+use Rattle.search.specs.Search.{headOf, targetIn, lengthIn, ttlIn, Records, records, targetOf, lengthOf, ttlOf}
+use Rattle.search.proofs.HeadLaws.{target-back, length-back, ttl-back}
 use Rattle.search.specs.Search as search′
 use Rattle.search.specs.Links.{maxNames, Numbered}
 use Rattle.search.specs.Answers.{numberOf, answerOf, outputOf, livesOf}
@@ -60,17 +61,15 @@ module _ {N M : Type 0} (g : Graph N) (h : Graph M) (x : N) (y : M) (w : workOf 
   lives-like l (suc k) room = refl
 
 -- what the arrays hold once they are filled
-pub record Filled (t owners targets lengths highs lows ttls : List ℕ) : Type 0 where
+pub record Filled (t owners heads highs lows : List ℕ) : Type 0 where
   pub owner : (i : ℕ) → i < countOf t → getD owners i 0 ≡ pick (isA6 (recordAt t i)) (ownNumber t i) noOwner
-  pub target : (i : ℕ) → i < countOf t → getD targets i 0 ≡ targetNumber t i
-  pub len : (i : ℕ) → i < countOf t → getD lengths i 0 ≡ prefixAt t i
+  pub head : (i : ℕ) → i < countOf t → getD heads i 0 ≡ headOf (targetNumber t i) (prefixAt t i) (ttlAt t i)
   pub halved : Halved t highs lows (countOf t)
-  pub ttl : (i : ℕ) → i < countOf t → getD ttls i 0 ≡ ttlAt t i
   pub owners-long : countOf t ≤ length owners
 
-module _ (t owners targets lengths highs lows ttls : List ℕ) (o : InOrder t) (f : Filled t owners targets lengths highs lows ttls) where
+module _ (t owners heads highs lows : List ℕ) (o : InOrder t) (f : Filled t owners heads highs lows) where
   abbrev read : Records
-  read = records (take (countOf t) owners) targets lengths highs lows ttls
+  read = records (take (countOf t) owners) heads highs lows
 
   read-size : length (take (countOf t) owners) ≡ countOf t
   read-size = length-take-le (countOf t) owners (f .owners-long)
@@ -90,16 +89,30 @@ module _ (t owners targets lengths highs lows ttls : List ℕ) (o : InOrder t) (
       let l = target-listed t i h (targetless-on (recordAt t i) (λ e. omega arith)) in
       let m = names-fit t o in omega arith
 
+  -- the parts of a head
+  module _ (i : ℕ) (h : i < countOf t) where
+    brief : prefixAt t i < 256
+    brief = omega (arith, order-good t o i h .prefix)
+
+    read-target : targetOf read i ≡ targetNumber t i
+    read-target = ap targetIn (f .head i h) ∙ target-back (targetNumber t i) (prefixAt t i) (ttlAt t i) (target-short t o i h) brief
+
+    read-length : lengthOf read i ≡ prefixAt t i
+    read-length = ap lengthIn (f .head i h) ∙ length-back (targetNumber t i) (prefixAt t i) (ttlAt t i) (target-short t o i h) brief
+
+    read-ttl : ttlOf read i ≡ ttlAt t i
+    read-ttl = ap ttlIn (f .head i h) ∙ ttl-back (targetNumber t i) (prefixAt t i) (ttlAt t i) (target-short t o i h) brief (omega (arith, order-good t o i h .lived))
+
   -- the search may run over them
   pub read-numbered : Numbered read
   read-numbered = record {
     owned = record { few = rw read-size (order-count t o); owner = λ j h. own-small j (rw read-size at h) };
     target = λ j h p.
         let k : j < countOf t = rw read-size at h in
-        let q : 0 < prefixAt t j = rw (f .len j k) at p in
-        rw (f .target j k) (let l = target-small j k q in omega arith);
-    short = λ j h. let k : j < countOf t = rw read-size at h in rw (f .len j k) (order-good t o j k .prefix);
-    lived = λ j h. let k : j < countOf t = rw read-size at h in rw (f .ttl j k) (order-good t o j k .lived);
+        let q : 0 < prefixAt t j = rw (read-length j k) at p in
+        rw (read-target j k) (let l = target-small j k q in omega arith);
+    short = λ j h. let k : j < countOf t = rw read-size at h in rw (read-length j k) (order-good t o j k .prefix);
+    lived = λ j h. let k : j < countOf t = rw read-size at h in rw (read-ttl j k) (order-good t o j k .lived);
   }
 
   -- a number that a name can have owns the same records
@@ -114,9 +127,9 @@ module _ (t owners targets lengths highs lows ttls : List ℕ) (o : InOrder t) (
   read-renamed : Renamed (numbered t) (search′.graphOf read)
   read-renamed = record {
     sizes = sym read-size;
-    lengths = λ i h. sym (f .len i h);
+    lengths = λ i h. sym (read-length i h);
     addresses = λ i h. sym (f .halved .address i h);
-    targets = λ i h p. rw (f .target i h) (read-alike (targetNumber t i) (target-small i h p));
+    targets = λ i h p. rw (read-target i h) (read-alike (targetNumber t i) (target-small i h p));
   }
 
   module _ (x : List ℕ) where
@@ -135,7 +148,7 @@ module _ (t owners targets lengths highs lows ttls : List ℕ) (o : InOrder t) (
     pub lifetime-read : (a : List ℕ) → lifetimeOf (graphOf t) x a ≡ lifetimeOf (search′.graphOf read) (numberIn (namesOf t) x) a
     lifetime-read a =
         lifetime-number t x a
-        ∙ lifetime-renamed (numbered t) (search′.graphOf read) read-renamed (λ i h. sym (f .ttl i h)) (numberIn (namesOf t) x) (numberIn (namesOf t) x) (read-alike (numberIn (namesOf t) x) number-small) a
+        ∙ lifetime-renamed (numbered t) (search′.graphOf read) read-renamed (λ i h. sym (read-ttl i h)) (numberIn (namesOf t) x) (numberIn (namesOf t) x) (read-alike (numberIn (namesOf t) x) number-small) a
 
 -- a name and its standard form have the same work, addresses and lifetimes
 module _ (t x : List ℕ) (s : Small x) (w : wellFormed x ≡ true) where

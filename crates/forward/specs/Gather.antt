@@ -4,8 +4,9 @@ use mathlib.Core.Path.{_≡_}
 use mathlib.Core.List.{List}
 use lib.ListN.{getD}
 use Rattle.chains.specs.Lists.{pick}
-use Rattle.plan.specs.Layout.{isA6, recordAt, addressAt}
+use Rattle.plan.specs.Layout.{isA6, recordAt, prefixAt, addressAt, ttlAt}
 use Rattle.rows.specs.Halves.{addressOf}
+use Rattle.search.specs.Search.{headOf}
 
 -- a number that no name has, for a record that no name owns in the search
 abbrev pub noOwner : ℕ
@@ -14,6 +15,10 @@ noOwner = 2303
 -- the owner of the record at i in the search: that of the list for an A6 record, none for a DNAME
 abbrev pub searchOwner : List ℕ → List ℕ → ℕ → ℕ
 searchOwner t owners i = pick (isA6 (recordAt t i)) (getD owners i 0) noOwner
+
+-- the head of the record at i, with the target of the list
+abbrev pub searchHead : List ℕ → List ℕ → ℕ → ℕ
+searchHead t targets i = headOf (getD targets i 0) (prefixAt t i) (ttlAt t i)
 
 -- the first n pairs of halves are the addresses of the records
 pub record Halved (t highs lows : List ℕ) (n : ℕ) : Type 0 where

@@ -4,9 +4,9 @@ ghost use Prim.Native.Nat.{_≤_};
 ghost use lib.ListN.{length};
 ghost use Rattle.chains.specs.Lists.{pick};
 ghost use lib.Dec.{eqb};
-ghost use Rattle.plan.specs.Layout.{a6, countOf, prefixAt, ttlAt};
+ghost use Rattle.plan.specs.Layout.{a6, countOf};
 ghost use Rattle.numbering.specs.Numbers.{filled};
-ghost use Rattle.forward.specs.Gather.{noOwner, searchOwner, Halved};
+ghost use Rattle.forward.specs.Gather.{noOwner, searchOwner, searchHead, Halved};
 
 // A number that no name has.
 const NO_OWNER: u16 = 2303;
@@ -34,28 +34,17 @@ fn owner_of(kind: u16, number: u16) -> u16
     NO_OWNER
 }
 
-// The prefix lengths.
-pub fn set_lengths(table: &[u8], lengths: &mut [u8])
-    requires { ⌜ countOf (now table) ≤ length (now lengths) ⌝ }
-    ensures { λ _. ⌜ now (lengths .exit) ≡ filled (prefixAt (now (table .entry))) (countOf (now (table .entry))) (now (lengths .entry)) ⌝ }
+// The heads, with these targets.
+pub fn set_heads(table: &[u8], targets: &[u16], heads: &mut [u64])
+    requires { ⌜ (countOf (now table) ≤ length (now targets)) × (countOf (now table) ≤ length (now heads)) ⌝ }
+    ensures { λ _. ⌜ now (heads .exit) ≡ filled (searchHead (now (table .entry)) (now (targets .entry))) (countOf (now (table .entry))) (now (heads .entry)) ⌝ }
 {
     let n = plan::inside::count(table);
     let mut i: usize = 0;
     while i < n {
-        lengths[i] = plan::inside::prefix(table, i);
-        i += 1;
-    }
-}
-
-// The TTLs.
-pub fn set_ttls(table: &[u8], ttls: &mut [u32])
-    requires { ⌜ countOf (now table) ≤ length (now ttls) ⌝ }
-    ensures { λ _. ⌜ now (ttls .exit) ≡ filled (ttlAt (now (table .entry))) (countOf (now (table .entry))) (now (ttls .entry)) ⌝ }
-{
-    let n = plan::inside::count(table);
-    let mut i: usize = 0;
-    while i < n {
-        ttls[i] = plan::inside::ttl(table, i);
+        let prefix = plan::inside::prefix(table, i);
+        let ttl = plan::inside::ttl(table, i);
+        heads[i] = search::inside::head_of(targets[i], prefix, ttl);
         i += 1;
     }
 }

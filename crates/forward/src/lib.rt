@@ -57,28 +57,15 @@ fn look(table: &[u8], name: &[u8], limit: u32, out: &mut [u8], lives: &mut [u32]
 {
     let mut owners = [0u16; search::inside::RECORDS];
     let mut targets = [0u16; search::inside::RECORDS];
-    let mut lengths = [0u8; search::inside::RECORDS];
+    let mut heads = [0u64; search::inside::RECORDS];
     let mut highs = [0u64; search::inside::RECORDS];
     let mut lows = [0u64; search::inside::RECORDS];
-    let mut ttls = [0u32; search::inside::RECORDS];
     let x = numbering::inside::number(table, name, &mut owners, &mut targets);
     gather::set_owners(table, &mut owners);
-    gather::set_lengths(table, &mut lengths);
+    gather::set_heads(table, &targets, &mut heads);
     gather::set_halves(table, &mut highs, &mut lows);
-    gather::set_ttls(table, &mut ttls);
     let n = plan::inside::count(table);
-    search::inside::find(
-        &owners[..n],
-        &targets,
-        &lengths,
-        &highs,
-        &lows,
-        &ttls,
-        x,
-        limit,
-        out,
-        lives,
-    )
+    search::inside::find(&owners[..n], &heads, &highs, &lows, x, limit, out, lives)
 }
 
 mod gather;

@@ -1,7 +1,7 @@
 -- What a table in order gives: places that hold names, and a graph with sound addresses. Assumes nothing.
 use Prim.Native.Nat.{ℕ, _+_, _*_, _≤_, _<_}
 use mathlib.Core.Path.{_≡_, refl}
-use mathlib.Core.Bool.{false}
+use mathlib.Core.Bool.{Bool, true, false}
 use mathlib.Core.List.{List}
 use native.Mathlib.Omega.{arith}
 use lib.ListN.{length}
@@ -15,15 +15,24 @@ use Rattle.chains.specs.Graph.{Sound}
 use Rattle.chains.proofs.RenamingLaws.{sound-renamed}
 use Rattle.plan.specs.Graph.{graphOf}
 use Rattle.numbering.specs.Graph.{numbered}
-use Rattle.numbering.specs.Numbers.{namesOf}
+use Rattle.numbering.specs.Numbers.{namesOf, targetIn, targetNumber}
 use Rattle.numbering.specs.Buckets.{maxNames, Named}
-use Rattle.numbering.proofs.NamesLaws.{names-few}
+use Rattle.numbering.proofs.NamesLaws.{names-few, target-listed}
 use Rattle.numbering.proofs.HeldLaws.{slot-owner, slot-target}
 use Rattle.numbering.proofs.GraphLaws.{renamed}
 
 module _ (t : List ℕ) (o : InOrder t) where
   pub names-fit : length (namesOf t) ≤ maxNames
   names-fit = let m = order-count t o in let n = names-few t in omega arith
+
+  -- a target's number, and what stands for none, has 16 bits
+  pub target-short : (i : ℕ) → i < countOf t → targetNumber t i < 65536
+  unfolding targetNumber targetIn
+  target-short i h = go (targetless (recordAt t i)) refl
+    where
+      go : (b : Bool) → targetless (recordAt t i) ≡ b → targetNumber t i < 65536
+      go true e = rw (targetIn, e) (omega arith)
+      go false e = omega (arith, target-listed t i h e, names-fit)
 
   -- the places of a record's names
   pub owner-named : (i : ℕ) → i < countOf t → Named t (2 * i)

@@ -3,6 +3,7 @@ use Prim.Native.Nat.{ℕ, _+_, _*_, _/_}
 use mathlib.Core.Path.{_≡_, refl}
 use mathlib.Core.Bool.{Bool, true, false}
 use mathlib.Core.List.{List, [], _∷_, _++_, map}
+use lib.ListN.{getD, drop}
 use Rattle.octets.specs.declared.Answer.{Answer}
 use Rattle.octets.specs.Octets.{blank, same, flat}
 use Rattle.bits.specs.Bits.{unpack, pack}
@@ -18,7 +19,7 @@ use Rattle.chains.specs.Addresses.{insert, gather, addressesOf, spell}
 use Rattle.chains.specs.Lifetimes.{leastTtl, lifetimeIn, lifetimeOf}
 use Rattle.rows.specs.Halves.{addressOf}
 use Rattle.rows.specs.Rows.{seek, putAt, lowered, keepAt, keepIn}
-use Rattle.search.specs.Search.{Records, records, graphOf, State, visit, run, searched}
+use Rattle.search.specs.Search.{headOf, targetIn, lengthIn, ttlIn, Records, records, graphOf, State, visit, run, searched}
 use Rattle.search.specs.Answers.{numberOf, answerOf, outputOf, livesOf, foundOf, writtenOf, lastingOf}
 use Rattle.search.proofs.AnswerLaws.{start}
 
@@ -29,6 +30,16 @@ address s t m = 0x20 ∷ 1 ∷ 13 ∷ 184 ∷ 0 ∷ s ∷ 0 ∷ t ∷ (blank 7 +
 
 site : ℕ → ℕ → ℕ
 site s t = 0x20010db800000000 + s * 0x10000 + t
+
+-- records by their owners, targets, prefix lengths, halves of addresses and TTLs
+heads : List ℕ → List ℕ → List ℕ → List ℕ
+unfolding headOf
+heads [] lengths ttls = []
+heads (t ∷ targets) lengths ttls = headOf t (getD lengths 0 0) (getD ttls 0 0) ∷ heads targets (drop 1 lengths) (drop 1 ttls)
+
+made : List ℕ → List ℕ → List ℕ → List ℕ → List ℕ → List ℕ → Records
+unfolding heads
+made owners targets lengths highs lows ttls = records owners (heads targets lengths ttls) highs lows
 
 -- a name asked with a limit and an output, and what comes back: the answer, the output, the lifetimes, and the figures of the search
 record Case : Type 0 where
@@ -50,7 +61,7 @@ record Outcome : Type 0 where
   full : Bool
 
 given : Case → Outcome
-unfolding numberOf answerOf outputOf livesOf lifetimeOf lifetimeIn leastTtl same flat searched run visit keepIn keepAt seek putAt lowered chainsOf chainsFrom paths extend upTo free blank workOf addressesOf gather insert orderOf lastLength spell joinOf spelt speltBit bitAt bits unpack pack addressOf octetsOf
+unfolding targetIn lengthIn ttlIn numberOf answerOf outputOf livesOf lifetimeOf lifetimeIn leastTtl same flat searched run visit keepIn keepAt seek putAt lowered chainsOf chainsFrom paths extend upTo free blank workOf addressesOf gather insert orderOf lastLength spell joinOf spelt speltBit bitAt bits unpack pack addressOf octetsOf
 given c =
     let g = graphOf (c .table) in
     let s : State = searched g (c .limit) (blank (g .size)) (c .name) 128 (blank 16) maxTtl (0, start (c .size / 16)) in
@@ -61,15 +72,15 @@ expected c = record { answer = c .answer; out = c .out; lives = c .lives; work =
 
 -- x.a is 4 and its own target
 loop : Records
-unfolding site
-loop = records (4 ∷ 4 ∷ []) (4 ∷ 0 ∷ []) (48 ∷ 0 ∷ []) (0 ∷ site 0 0 ∷ []) (1 ∷ 0 ∷ []) (60 ∷ 600 ∷ [])
+unfolding site made
+loop = made (4 ∷ 4 ∷ []) (4 ∷ 0 ∷ []) (48 ∷ 0 ∷ []) (0 ∷ site 0 0 ∷ []) (1 ∷ 0 ∷ []) (60 ∷ 600 ∷ [])
 
 cases : List Case
-unfolding address site blank loop
+unfolding address site blank loop made
 cases =
     -- h.a is 1 and p.a 2: one carrier
     record {
-      table = records (1 ∷ 2 ∷ []) (2 ∷ 0 ∷ []) (64 ∷ 0 ∷ []) (0 ∷ site 0 5 ∷ []) (7 ∷ 0 ∷ []) (300 ∷ 600 ∷ []);
+      table = made (1 ∷ 2 ∷ []) (2 ∷ 0 ∷ []) (64 ∷ 0 ∷ []) (0 ∷ site 0 5 ∷ []) (7 ∷ 0 ∷ []) (300 ∷ 600 ∷ []);
       name = 1;
       limit = 10;
       size = 32;
@@ -99,7 +110,7 @@ cases =
     ∷ record { table = loop; name = 4; limit = 2; size = 16; answer = refusal 6; out = blank 16; lives = blank 1; work = 3; full = true }
     -- h.a is 1, p.a 2, q.a 3: the ignored 64; the last record is no A6 record, and its owner's number is that of no name
     ∷ record {
-      table = records (1 ∷ 2 ∷ 2 ∷ 3 ∷ 9 ∷ []) (2 ∷ 3 ∷ 0 ∷ 0 ∷ 0 ∷ []) (48 ∷ 64 ∷ 0 ∷ 0 ∷ 0 ∷ []) (0 ∷ 0 ∷ site 0 0 ∷ site 1 0 ∷ 0 ∷ []) (0 ∷ 1 ∷ 0 ∷ 0 ∷ 0 ∷ []) (300 ∷ 1 ∷ 200 ∷ 1 ∷ 1 ∷ []);
+      table = made (1 ∷ 2 ∷ 2 ∷ 3 ∷ 9 ∷ []) (2 ∷ 3 ∷ 0 ∷ 0 ∷ 0 ∷ []) (48 ∷ 64 ∷ 0 ∷ 0 ∷ 0 ∷ []) (0 ∷ 0 ∷ site 0 0 ∷ site 1 0 ∷ 0 ∷ []) (0 ∷ 1 ∷ 0 ∷ 0 ∷ 0 ∷ []) (300 ∷ 1 ∷ 200 ∷ 1 ∷ 1 ∷ []);
       name = 1;
       limit = 10;
       size = 16;
@@ -111,7 +122,7 @@ cases =
     }
     -- records that differ in the TTL alone count apart, their address stands once, with the lesser
     ∷ record {
-      table = records (1 ∷ 1 ∷ []) (0 ∷ 0 ∷ []) (0 ∷ 0 ∷ []) (site 0 0 ∷ site 0 0 ∷ []) (1 ∷ 1 ∷ []) (2147483647 ∷ 2147483646 ∷ []);
+      table = made (1 ∷ 1 ∷ []) (0 ∷ 0 ∷ []) (0 ∷ 0 ∷ []) (site 0 0 ∷ site 0 0 ∷ []) (1 ∷ 1 ∷ []) (2147483647 ∷ 2147483646 ∷ []);
       name = 1;
       limit = 2;
       size = 16;
@@ -123,7 +134,7 @@ cases =
     }
     -- p.a, 2, leads back to h.a: the TTL of that record, on chains that repeat alone, does not count
     ∷ record {
-      table = records (1 ∷ 2 ∷ 2 ∷ []) (2 ∷ 1 ∷ 0 ∷ []) (64 ∷ 64 ∷ 0 ∷ []) (0 ∷ 0 ∷ site 0 5 ∷ []) (7 ∷ 9 ∷ 0 ∷ []) (300 ∷ 1 ∷ 600 ∷ []);
+      table = made (1 ∷ 2 ∷ 2 ∷ []) (2 ∷ 1 ∷ 0 ∷ []) (64 ∷ 64 ∷ 0 ∷ []) (0 ∷ 0 ∷ site 0 5 ∷ []) (7 ∷ 9 ∷ 0 ∷ []) (300 ∷ 1 ∷ 600 ∷ []);
       name = 1;
       limit = 3;
       size = 16;

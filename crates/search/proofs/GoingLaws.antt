@@ -12,7 +12,7 @@ use Rattle.octets.proofs.BoolLaws.{clash}
 use Rattle.chains.specs.Listing.{fits}
 use Rattle.chains.proofs.ListingLaws.{fits-is, is-fits}
 use Rattle.rows.specs.Rows.{maxFigures, Ordered}
-use Rattle.search.specs.Search.{Records, graphOf, State, stepped}
+use Rattle.search.specs.Search.{Records, lengthOf, graphOf, State, stepped}
 use Rattle.search.specs.Links.{lists, First, Linked, Memory, memory, stateOf, unusedOf, searchOf, stepOf, Fit, Done}
 use Rattle.rows.proofs.HalvesLaws.{address-length}
 use Rattle.rows.proofs.KeepingLaws.{keep-ordered}
@@ -38,16 +38,16 @@ module _ (r : Records) (u : List ℕ) (x b m : ℕ) where
           absurd (clash (lists-yes (r .owners) u x m (eqb-true (getD (r .owners) m 0) x (f .2)) (f .0)) h)
       go false e = refl
 
-  long-unfit : leb (getD (r .lengths) m 0) b ≡ false → fits (graphOf r) u x b m ≡ false
+  long-unfit : leb (lengthOf r m) b ≡ false → fits (graphOf r) u x b m ≡ false
   long-unfit l = go (eqb (getD u m 0) 0)
     where
-      go : (t : Bool) → t && (leb (getD (r .lengths) m 0) b && eqb (getD (r .owners) m 0) x) ≡ false
+      go : (t : Bool) → t && (leb (lengthOf r m) b && eqb (getD (r .owners) m 0) x) ≡ false
       go true = rw l
       go false = refl
 
-  listed-fits : lists (r .owners) u x m ≡ true → leb (getD (r .lengths) m 0) b ≡ true → fits (graphOf r) u x b m ≡ true
+  listed-fits : lists (r .owners) u x m ≡ true → leb (lengthOf r m) b ≡ true → fits (graphOf r) u x b m ≡ true
   listed-fits h l =
-      fits-is (graphOf r) u x b m (lists-free (r .owners) u x m h) (leb-true (getD (r .lengths) m 0) b l)
+      fits-is (graphOf r) u x b m (lists-free (r .owners) u x m h) (leb-true (lengthOf r m) b l)
       (eq-eqb (getD (r .owners) m 0) x (lists-owner (r .owners) u x m h))
 
 module _ (r : Records) (limit x b : ℕ) (a : List ℕ) (c : ℕ) (m : Memory) where
@@ -134,7 +134,7 @@ module _ (r : Records) (limit x b : ℕ) (a : List ℕ) (c : ℕ) (m : Memory) w
       at-i = let e : min i n ≡ i = omega arith in v .state ∙ ap to e
 
       -- a record that is too long is passed over
-      pub going-skip : (j : ℕ) → leb (getD (r .lengths) i 0) b ≡ false → j ≡ getD (m′ .next) i 0 → Going m′ j
+      pub going-skip : (j : ℕ) → leb (lengthOf r i) b ≡ false → j ≡ getD (m′ .next) i 0 → Going m′ j
       going-skip j l ej =
           going m′ j (v .next) (v .prev) (at-i ∙ sym (to-skip (graphOf r) limit u x b a c (stateOf m) i (long-unfit r u x b i l))) (v .places) (v .room) (v .out) (v .lives) ej
 
@@ -161,7 +161,7 @@ module _ (r : Records) (limit x b : ℕ) (a : List ℕ) (c : ℕ) (m : Memory) w
         limited = f .limited;
       }
 
-      pub going-step : (m″ : Memory) (j : ℕ) → leb (getD (r .lengths) i 0) b ≡ true → Done m′ m″ (stepOf r limit i b a c m′) → length (m″ .out) ≡ length (m′ .out) → length (m″ .lives) ≡ length (m′ .lives)
+      pub going-step : (m″ : Memory) (j : ℕ) → leb (lengthOf r i) b ≡ true → Done m′ m″ (stepOf r limit i b a c m′) → length (m″ .out) ≡ length (m′ .out) → length (m″ .lives) ≡ length (m′ .lives)
           → j ≡ getD (m″ .next) i 0 → Going m″ j
       going-step m″ j l d lo ll ej =
           going m″ j (d .next ∙ v .next) (d .prev ∙ v .prev)

@@ -1,3 +1,4 @@
+pub mod HeadLaws
 pub mod NodeLaws
 pub mod LinkLaws
 pub mod BuildLaws

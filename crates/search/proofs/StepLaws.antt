@@ -9,7 +9,7 @@ use Rattle.chains.specs.Listing.{free}
 use Rattle.chains.proofs.ListingLaws.{free-mark}
 use Rattle.rows.specs.Halves.{addressOf}
 use Rattle.rows.specs.Rows.{maxFigures, kept, keepIn}
-use Rattle.search.specs.Search.{Records, graphOf, State, searched}
+use Rattle.search.specs.Search.{Records, targetOf, lengthOf, ttlOf, graphOf, State, searched}
 use Rattle.search.specs.Links.{Linked, maxNodes, maxNames, Memory, memory, stateOf, unusedOf, searchOf, stepOf, Fit, Done}
 use Rattle.search.proofs.LinkLaws.{prev-node, next-node, marks-out, unlinked-marks, relinked-next, relinked-prev}
 use Rattle.search.proofs.SearchLaws.{stepped-end, stepped-on}
@@ -17,8 +17,8 @@ use Rattle.search.proofs.GoingLaws.{memory-eq, going-start, going-end}
 
 module _ (r : Records) (m : Memory) (bound limit i : ℕ) (f : Fit r m bound limit) (li : i < length (r .owners)) (ui : getD (unusedOf r m) i 0 ≡ 0) where
   -- ---- into a finished record
-  pub done-finished : (a v out lives figures : List ℕ) (c t : ℕ) → m .work ≤ limit → getD (r .lengths) i 0 ≡ 0 → v ≡ joinOf (addressOf (getD (r .highs) i 0) (getD (r .lows) i 0)) a bound
-      → t ≡ min c (getD (r .ttls) i 0) → kept out lives figures ≡ keepIn v t (kept (m .out) (m .lives) (m .figures)) → length figures ≡ maxFigures → getD figures 0 0 * 16 ≤ length (m .out)
+  pub done-finished : (a v out lives figures : List ℕ) (c t : ℕ) → m .work ≤ limit → lengthOf r i ≡ 0 → v ≡ joinOf (addressOf (getD (r .highs) i 0) (getD (r .lows) i 0)) a bound
+      → t ≡ min c (ttlOf r i) → kept out lives figures ≡ keepIn v t (kept (m .out) (m .lives) (m .figures)) → length figures ≡ maxFigures → getD figures 0 0 * 16 ≤ length (m .out)
       → Done m (memory (m .next) (m .prev) out lives figures (m .work + 1)) (stepOf r limit i bound a c m)
   done-finished a v out lives figures c t w e j y k q o = record {
     next = refl;
@@ -82,17 +82,17 @@ module _ (r : Records) (m : Memory) (bound limit i : ℕ) (f : Fit r m bound lim
         still-long = (ap length (d .next ∙ en) ∙ length-set (m .next) p q ∙ f .nodes, ap length (d .prev ∙ el) ∙ length-set (m .prev) q p ∙ f .linked .level ∙ f .nodes)
 
         -- afterwards the record is in again
-        pub done-unfinished : (a v : List ℕ) (c y x : ℕ) → m .work ≤ limit → 0 < getD (r .lengths) i 0 → x ≡ getD (r .targets) i 0
-            → v ≡ joinOf (addressOf (getD (r .highs) i 0) (getD (r .lows) i 0)) a bound → y ≡ min c (getD (r .ttls) i 0) → s ≡ searchOf r limit x (getD (r .lengths) i 0) v y without
+        pub done-unfinished : (a v : List ℕ) (b c y x : ℕ) → m .work ≤ limit → 0 < lengthOf r i → x ≡ targetOf r i → b ≡ lengthOf r i
+            → v ≡ joinOf (addressOf (getD (r .highs) i 0) (getD (r .lows) i 0)) a bound → y ≡ min c (ttlOf r i) → s ≡ searchOf r limit x b v y without
             → (next″ prev″ : List ℕ) → next″ ≡ set (m′ .next) p i → prev″ ≡ set (m′ .prev) q i
             → Done m (memory next″ prev″ (m′ .out) (m′ .lives) (m′ .figures) (m′ .work)) (stepOf r limit i bound a c m)
-        done-unfinished a v c y x w h t j q′ k next″ prev″ en″ el″ = record {
+        done-unfinished a v b c y x w h t eb j q′ k next″ prev″ en″ el″ = record {
           next = en″ ∙ ap (λ (z : ℕ). set (m′ .next) z i) ep
               ∙ relinked-next (r .owners) (unusedOf r m) (m .next) (m .prev) (f .linked) i li ui (m′ .next) (d .next ∙ ap (λ (z : Memory). z .next) same);
           prev = el″ ∙ ap (λ (z : ℕ). set (m′ .prev) z i) eq
               ∙ relinked-prev (r .owners) (unusedOf r m) (m .next) (m .prev) (f .linked) i li ui (m′ .prev) (d .prev ∙ ap (λ (z : Memory). z .prev) same);
           state = d .state ∙ k
-              ∙ (λ z. searched (graphOf r) limit (marks z) (t z) (getD (r .lengths) i 0) (j z) (q′ z) (stateOf without))
+              ∙ (λ z. searched (graphOf r) limit (marks z) (t z) (eb z) (j z) (q′ z) (stateOf without))
               ∙ sym (stepped-on (graphOf r) limit (unusedOf r m) i bound a c (stateOf m) w h (omega (arith, f .linked .marks, li)) ui);
           places = d .places;
           room = d .room;

@@ -9,7 +9,7 @@ use Rattle.octets.specs.Octets.{blank}
 use Rattle.chains.specs.Lists.{pick}
 use Rattle.chains.specs.Graph.{maxTtl}
 use Rattle.rows.specs.Rows.{maxFigures, kept, Ordered}
-use Rattle.search.specs.Search.{Records, graphOf, State, searched, stepped}
+use Rattle.search.specs.Search.{Records, targetOf, lengthOf, ttlOf, graphOf, State, searched, stepped}
 
 -- how many records, names and nodes there may be
 abbrev pub maxRecords : ℕ
@@ -29,9 +29,9 @@ pub record Owned (owners : List ℕ) : Type 0 where
 -- what a search asks of the records: targets by number too, prefix lengths up to 128, and TTLs up to the greatest
 pub record Numbered (r : Records) : Type 0 where
   pub owned : Owned (r .owners)
-  pub target : (j : ℕ) → j < length (r .owners) → 0 < getD (r .lengths) j 0 → getD (r .targets) j 0 < maxNames
-  pub short : (j : ℕ) → j < length (r .owners) → getD (r .lengths) j 0 ≤ 128
-  pub lived : (j : ℕ) → j < length (r .owners) → getD (r .ttls) j 0 ≤ maxTtl
+  pub target : (j : ℕ) → j < length (r .owners) → 0 < lengthOf r j → targetOf r j < maxNames
+  pub short : (j : ℕ) → j < length (r .owners) → lengthOf r j ≤ 128
+  pub lived : (j : ℕ) → j < length (r .owners) → ttlOf r j ≤ maxTtl
 
 -- the record m is unused and one of x
 abbrev pub lists : List ℕ → List ℕ → ℕ → ℕ → Bool

@@ -1,6 +1,6 @@
 -- What a search does: it visits the chains of a name in their order, counts them, and keeps what the complete ones spell (01, Chains), with
 -- the least TTL of their records (T-01). Assumes nothing.
-use Prim.Native.Nat.{ℕ, _+_}
+use Prim.Native.Nat.{ℕ, _+_, _*_, _/_, _%_}
 use mathlib.Core.List.{List, [], _∷_}
 use lib.Dec.{leb, eqb}
 use lib.ListN.{length, getD, set}
@@ -13,27 +13,48 @@ use Rattle.chains.specs.Lifetimes.{leastTtl}
 use Rattle.rows.specs.Halves.{addressOf}
 use Rattle.rows.specs.Rows.{Kept, keepIn}
 
--- the records as arrays have them, with numbers for names: owner, target, prefix length, the two halves of the address and the TTL of each
+-- a record's target, prefix length and TTL in one number, its head, and each of them from it
+unfoldable pub headOf : ℕ → ℕ → ℕ → ℕ
+headOf target length ttl = target + length * 65536 + ttl * 16777216
+
+unfoldable pub targetIn : ℕ → ℕ
+targetIn head = head % 65536
+
+unfoldable pub lengthIn : ℕ → ℕ
+lengthIn head = head / 65536 % 256
+
+unfoldable pub ttlIn : ℕ → ℕ
+ttlIn head = head / 16777216 % 4294967296
+
+-- the records as arrays have them, with numbers for names: the owner, the head and the two halves of the address of each
 pub record Records : Type 0 where
   pub owners : List ℕ
-  pub targets : List ℕ
-  pub lengths : List ℕ
+  pub heads : List ℕ
   pub highs : List ℕ
   pub lows : List ℕ
-  pub ttls : List ℕ
 
-abbrev pub records : List ℕ → List ℕ → List ℕ → List ℕ → List ℕ → List ℕ → Records
-records owners targets lengths highs lows ttls = record { owners = owners; targets = targets; lengths = lengths; highs = highs; lows = lows; ttls = ttls }
+abbrev pub records : List ℕ → List ℕ → List ℕ → List ℕ → Records
+records owners heads highs lows = record { owners = owners; heads = heads; highs = highs; lows = lows }
+
+-- of the record at i
+abbrev pub targetOf : Records → ℕ → ℕ
+targetOf r i = targetIn (getD (r .heads) i 0)
+
+abbrev pub lengthOf : Records → ℕ → ℕ
+lengthOf r i = lengthIn (getD (r .heads) i 0)
+
+abbrev pub ttlOf : Records → ℕ → ℕ
+ttlOf r i = ttlIn (getD (r .heads) i 0)
 
 -- as a graph
 abbrev pub graphOf : Records → Graph ℕ
 graphOf r = record {
   size = length (r .owners);
   owns = λ i x. eqb (getD (r .owners) i 0) x;
-  target = λ i. getD (r .targets) i 0;
-  len = λ i. getD (r .lengths) i 0;
+  target = targetOf r;
+  len = lengthOf r;
   addr = λ i. addressOf (getD (r .highs) i 0) (getD (r .lows) i 0);
-  ttl = λ i. getD (r .ttls) i 0;
+  ttl = ttlOf r;
 }
 
 -- the work, and what is kept

@@ -6,7 +6,7 @@ ghost use Rattle.octets.specs.Octets.{blank};
 ghost use Rattle.octets.specs.Answers.{refusal};
 ghost use Rattle.address.specs.Address.{joinOf};
 ghost use Rattle.rows.specs.Halves.{addressOf};
-ghost use Rattle.search.specs.Search.{records, graphOf};
+ghost use Rattle.search.specs.Search.{headOf, targetIn, lengthIn, ttlIn, records, graphOf};
 ghost use Rattle.search.specs.Links.{maxRecords, maxNames, Numbered, memory, unusedOf, searchOf, stepOf, Fit, Done};
 ghost use Rattle.search.specs.Answers.{foundOf, writtenOf, lastingOf};
 use crate::links;
@@ -62,6 +62,32 @@ fn joined(
     }
 }
 
+// A record's target, prefix length and TTL in one number (specs/Search): a search reads them at once.
+pub fn head_of(target: u16, length: u8, ttl: u32) -> u64
+    ensures { λ r. ⌜ r ≡ headOf target length ttl ⌝ }
+{
+    target as u64 + length as u64 * 65536 + ttl as u64 * 16777216
+}
+
+// And each of them from it.
+fn target_in(head: u64) -> usize
+    ensures { λ r. ⌜ r ≡ targetIn head ⌝ }
+{
+    (head % 65536) as usize
+}
+
+fn length_in(head: u64) -> u8
+    ensures { λ r. ⌜ r ≡ lengthIn head ⌝ }
+{
+    (head / 65536 % 256) as u8
+}
+
+fn ttl_in(head: u64) -> u32
+    ensures { λ r. ⌜ r ≡ ttlIn head ⌝ }
+{
+    (head / 16777216 % 4294967296) as u32
+}
+
 // The lesser of two TTLs.
 fn lesser(a: u32, b: u32) -> u32
     ensures { λ r. ⌜ r ≡ min a b ⌝ }
@@ -75,11 +101,9 @@ fn lesser(a: u32, b: u32) -> u32
 // Into the record i, which is unused: it is out of its list while the search goes on from it.
 fn step(
     owners: &[u16],
-    targets: &[u16; RECORDS],
-    lengths: &[u8; RECORDS],
+    heads: &[u64; RECORDS],
     highs: &[u64; RECORDS],
     lows: &[u64; RECORDS],
-    ttls: &[u32; RECORDS],
     i: usize,
     bound: u8,
     high: u64,
@@ -93,21 +117,22 @@ fn step(
     figures: &mut [usize; FIGURES],
     work: u64,
 ) -> u64
-    requires { ⌜ Fit (records (now owners) (now targets) (now lengths) (now highs) (now lows) (now ttls)) (memory (now next) (now prev) (now out) (now lives) (now figures) work) bound limit ⌝ }
-    requires { ⌜ (i < length (now owners)) × (getD (unusedOf (records (now owners) (now targets) (now lengths) (now highs) (now lows) (now ttls)) (memory (now next) (now prev) (now out) (now lives) (now figures) work)) i 0 ≡ 0) × (getD (now lengths) i 0 ≤ bound) × (work ≤ limit) ⌝ }
-    ensures { λ r. ⌜ Done (memory (now (next .entry)) (now (prev .entry)) (now (out .entry)) (now (lives .entry)) (now (figures .entry)) work) (memory (now (next .exit)) (now (prev .exit)) (now (out .exit)) (now (lives .exit)) (now (figures .exit)) r) (stepOf (records (now (owners .entry)) (now (targets .entry)) (now (lengths .entry)) (now (highs .entry)) (now (lows .entry)) (now (ttls .entry))) limit i bound (addressOf high low) ttl (memory (now (next .entry)) (now (prev .entry)) (now (out .entry)) (now (lives .entry)) (now (figures .entry)) work)) ⌝ }
+    requires { ⌜ Fit (records (now owners) (now heads) (now highs) (now lows)) (memory (now next) (now prev) (now out) (now lives) (now figures) work) bound limit ⌝ }
+    requires { ⌜ (i < length (now owners)) × (getD (unusedOf (records (now owners) (now heads) (now highs) (now lows)) (memory (now next) (now prev) (now out) (now lives) (now figures) work)) i 0 ≡ 0) × (lengthIn (getD (now heads) i 0) ≤ bound) × (work ≤ limit) ⌝ }
+    ensures { λ r. ⌜ Done (memory (now (next .entry)) (now (prev .entry)) (now (out .entry)) (now (lives .entry)) (now (figures .entry)) work) (memory (now (next .exit)) (now (prev .exit)) (now (out .exit)) (now (lives .exit)) (now (figures .exit)) r) (stepOf (records (now (owners .entry)) (now (heads .entry)) (now (highs .entry)) (now (lows .entry))) limit i bound (addressOf high low) ttl (memory (now (next .entry)) (now (prev .entry)) (now (out .entry)) (now (lives .entry)) (now (figures .entry)) work)) ⌝ }
 {
-    let length = lengths[i];
+    let record = heads[i];
+    let length = length_in(record);
     let a = joined(highs, lows, i, high, low, bound);
     let h = a.high;
     let l = a.low;
-    let t = lesser(ttl, ttls[i]);
+    let t = lesser(ttl, ttl_in(record));
     let w = work + 1;
     if length == 0 {
         rows::inside::keep(out, lives, figures, h, l, t);
         return w;
     }
-    let x = octets::numbers::wide(targets[i]);
+    let x = target_in(record);
     let p = octets::numbers::wide(prev[i]);
     let q = octets::numbers::wide(next[i]);
     links::unlink(p, q, next, prev);
@@ -117,11 +142,9 @@ fn step(
     if first < owners.len() {
         r = search(
             owners,
-            targets,
-            lengths,
+            heads,
             highs,
             lows,
-            ttls,
             x,
             length,
             h,
@@ -143,11 +166,9 @@ fn step(
 // Over the unused records of the name x.
 fn search(
     owners: &[u16],
-    targets: &[u16; RECORDS],
-    lengths: &[u8; RECORDS],
+    heads: &[u64; RECORDS],
     highs: &[u64; RECORDS],
     lows: &[u64; RECORDS],
-    ttls: &[u32; RECORDS],
     x: usize,
     bound: u8,
     high: u64,
@@ -161,9 +182,9 @@ fn search(
     figures: &mut [usize; FIGURES],
     work: u64,
 ) -> u64
-    requires { ⌜ Fit (records (now owners) (now targets) (now lengths) (now highs) (now lows) (now ttls)) (memory (now next) (now prev) (now out) (now lives) (now figures) work) bound limit ⌝ }
+    requires { ⌜ Fit (records (now owners) (now heads) (now highs) (now lows)) (memory (now next) (now prev) (now out) (now lives) (now figures) work) bound limit ⌝ }
     requires { ⌜ x < maxNames ⌝ }
-    ensures { λ r. ⌜ Done (memory (now (next .entry)) (now (prev .entry)) (now (out .entry)) (now (lives .entry)) (now (figures .entry)) work) (memory (now (next .exit)) (now (prev .exit)) (now (out .exit)) (now (lives .exit)) (now (figures .exit)) r) (searchOf (records (now (owners .entry)) (now (targets .entry)) (now (lengths .entry)) (now (highs .entry)) (now (lows .entry)) (now (ttls .entry))) limit x bound (addressOf high low) ttl (memory (now (next .entry)) (now (prev .entry)) (now (out .entry)) (now (lives .entry)) (now (figures .entry)) work)) ⌝ }
+    ensures { λ r. ⌜ Done (memory (now (next .entry)) (now (prev .entry)) (now (out .entry)) (now (lives .entry)) (now (figures .entry)) work) (memory (now (next .exit)) (now (prev .exit)) (now (out .exit)) (now (lives .exit)) (now (figures .exit)) r) (searchOf (records (now (owners .entry)) (now (heads .entry)) (now (highs .entry)) (now (lows .entry))) limit x bound (addressOf high low) ttl (memory (now (next .entry)) (now (prev .entry)) (now (out .entry)) (now (lives .entry)) (now (figures .entry)) work)) ⌝ }
 {
     let mut s = work;
     let head = owners.len() + x;
@@ -172,14 +193,12 @@ fn search(
         if limit < s {
             return s;
         }
-        if lengths[i] <= bound {
+        if length_in(heads[i]) <= bound {
             s = step(
                 owners,
-                targets,
-                lengths,
+                heads,
                 highs,
                 lows,
-                ttls,
                 i,
                 bound,
                 high,
@@ -211,21 +230,19 @@ fn refuse(number: u8, out: &mut [u8], lives: &mut [u32]) -> octets::Answer
 // The addresses of the name x and their lifetimes, or refusal 6 or 7, once the records and both lists are in order; they come as zeros.
 pub fn find(
     owners: &[u16],
-    targets: &[u16; RECORDS],
-    lengths: &[u8; RECORDS],
+    heads: &[u64; RECORDS],
     highs: &[u64; RECORDS],
     lows: &[u64; RECORDS],
-    ttls: &[u32; RECORDS],
     x: usize,
     limit: u32,
     out: &mut [u8],
     lives: &mut [u32],
 ) -> octets::Answer
-    requires { ⌜ Numbered (records (now owners) (now targets) (now lengths) (now highs) (now lows) (now ttls)) × (x < maxNames) ⌝ }
+    requires { ⌜ Numbered (records (now owners) (now heads) (now highs) (now lows)) × (x < maxNames) ⌝ }
     requires { ⌜ (length (now out) % 16 ≡ 0) × (now out ≡ blank (length (now out))) × (length (now lives) * 16 ≡ length (now out)) × (now lives ≡ blank (length (now lives))) ⌝ }
-    ensures { λ r. ⌜ r ≡ foundOf (graphOf (records (now (owners .entry)) (now (targets .entry)) (now (lengths .entry)) (now (highs .entry)) (now (lows .entry)) (now (ttls .entry)))) x limit (length (now (out .entry))) ⌝ }
-    ensures { λ _. ⌜ now (out .exit) ≡ writtenOf (graphOf (records (now (owners .entry)) (now (targets .entry)) (now (lengths .entry)) (now (highs .entry)) (now (lows .entry)) (now (ttls .entry)))) x limit (length (now (out .entry))) ⌝ }
-    ensures { λ _. ⌜ now (lives .exit) ≡ lastingOf (graphOf (records (now (owners .entry)) (now (targets .entry)) (now (lengths .entry)) (now (highs .entry)) (now (lows .entry)) (now (ttls .entry)))) x limit (length (now (out .entry))) ⌝ }
+    ensures { λ r. ⌜ r ≡ foundOf (graphOf (records (now (owners .entry)) (now (heads .entry)) (now (highs .entry)) (now (lows .entry)))) x limit (length (now (out .entry))) ⌝ }
+    ensures { λ _. ⌜ now (out .exit) ≡ writtenOf (graphOf (records (now (owners .entry)) (now (heads .entry)) (now (highs .entry)) (now (lows .entry)))) x limit (length (now (out .entry))) ⌝ }
+    ensures { λ _. ⌜ now (lives .exit) ≡ lastingOf (graphOf (records (now (owners .entry)) (now (heads .entry)) (now (highs .entry)) (now (lows .entry)))) x limit (length (now (out .entry))) ⌝ }
 {
     let mut next = [0u16; NODES];
     let mut prev = [0u16; NODES];
@@ -234,11 +251,9 @@ pub fn find(
     let most = limit as u64;
     let work = search(
         owners,
-        targets,
-        lengths,
+        heads,
         highs,
         lows,
-        ttls,
         x,
         128,
         0,

@@ -16,14 +16,14 @@ use Rattle.search.proofs.inside.find.Tie as tie
 
 -- the records, and the state that the search leaves
 abbrev given : (c : tie.Start) → Records
-given c = records (c .args .owners .now) (c .args .targets .now) (c .args .lengths .now) (c .args .highs .now) (c .args .lows .now) (c .args .ttls .now)
+given c = records (c .args .owners .now) (c .args .heads .now) (c .args .highs .now) (c .args .lows .now)
 
 sound : (c : tie.Start) → Sound (graphOf (given c))
 sound c = numbered-sound (given c) (c .pre .0 .0)
 
 -- the memory that it leaves
 abbrev left : tie.After-search → Memory
-left c = memory (c .search .last .1 .1 .1 .1 .1 .1 .1 .1 .1 .1 .1 .0) (c .search .last .1 .1 .1 .1 .1 .1 .1 .1 .1 .1 .1 .1 .0) (c .search .last .1 .1 .1 .1 .1 .1 .1 .1 .1 .1 .1 .1 .1 .1 .0) (c .search .last .1 .1 .1 .1 .1 .1 .1 .1 .1 .1 .1 .1 .1 .1 .1 .0) (c .search .last .1 .1 .1 .1 .1 .1 .1 .1 .1 .1 .1 .1 .1 .1 .1 .1 .0) (c .search .result)
+left c = memory (c .search .last .1 .1 .1 .1 .1 .1 .1 .1 .1 .0) (c .search .last .1 .1 .1 .1 .1 .1 .1 .1 .1 .1 .0) (c .search .last .1 .1 .1 .1 .1 .1 .1 .1 .1 .1 .1 .1 .0) (c .search .last .1 .1 .1 .1 .1 .1 .1 .1 .1 .1 .1 .1 .1 .0) (c .search .last .1 .1 .1 .1 .1 .1 .1 .1 .1 .1 .1 .1 .1 .1 .0) (c .search .result)
 
 ran : (c : tie.After-search) → stateOf (left c)
     ≡ searched (graphOf (given (c .before .before .before .before .before .before .before .before .before .before .before .before))) (c .before .before .before .before .before .before .before .before .before .before .before .before .args .limit) (blank (length (c .before .before .before .before .before .before .before .before .before .before .before .before .args .owners .now))) (c .before .before .before .before .before .before .before .before .before .before .before .before .args .x) 128 (blank 16) maxTtl (0, start (length (c .before .before .before .before .before .before .before .before .before .before .before .before .args .out .now) / 16))
@@ -65,8 +65,8 @@ returns c =
     let y : length (a .lives .now) ≡ length (a .out .now) / 16 = omega (arith, c .before .before .before .before .before .before .before .before .before .before .before .before .before .before .before .before .before .before .before .before .before .before .before .before .pre .1 .2) in (
       c .before .before .before .before .refuse .ensures .0 ∙ refused-answer g (a .x) _ 5 e,
       (
-        c .before .before .before .before .refuse .ensures .1 ∙ ap blank (k .1 .1 .1 .1 .1 .1 .1 .1 .1 .1 .1 .1 .1 .1 .0) ∙ refused-output g (a .x) _ 5 e (length (a .out .now)),
-        c .before .before .before .before .refuse .ensures .2 ∙ ap blank (k .1 .1 .1 .1 .1 .1 .1 .1 .1 .1 .1 .1 .1 .1 .1 .0 ∙ y) ∙ refused-lives g (a .x) _ 5 e (length (a .out .now) / 16),
+        c .before .before .before .before .refuse .ensures .1 ∙ ap blank (k .1 .1 .1 .1 .1 .1 .1 .1 .1 .1 .1 .1 .0) ∙ refused-output g (a .x) _ 5 e (length (a .out .now)),
+        c .before .before .before .before .refuse .ensures .2 ∙ ap blank (k .1 .1 .1 .1 .1 .1 .1 .1 .1 .1 .1 .1 .1 .0 ∙ y) ∙ refused-lives g (a .x) _ 5 e (length (a .out .now) / 16),
       ),
     )
 
@@ -88,8 +88,8 @@ returns-2 c =
     let y : length (a .lives .now) ≡ length (a .out .now) / 16 = omega (arith, c .before .before .before .before .before .before .before .before .before .before .before .before .before .before .before .before .before .before .before .before .before .before .before .before .before .pre .1 .2) in (
       c .before .before .before .before .refuse2 .ensures .0 ∙ refused-answer g (a .x) _ 6 e,
       (
-        c .before .before .before .before .refuse2 .ensures .1 ∙ ap blank (k .1 .1 .1 .1 .1 .1 .1 .1 .1 .1 .1 .1 .1 .1 .0) ∙ refused-output g (a .x) _ 6 e (length (a .out .now)),
-        c .before .before .before .before .refuse2 .ensures .2 ∙ ap blank (k .1 .1 .1 .1 .1 .1 .1 .1 .1 .1 .1 .1 .1 .1 .1 .0 ∙ y) ∙ refused-lives g (a .x) _ 6 e (length (a .out .now) / 16),
+        c .before .before .before .before .refuse2 .ensures .1 ∙ ap blank (k .1 .1 .1 .1 .1 .1 .1 .1 .1 .1 .1 .1 .0) ∙ refused-output g (a .x) _ 6 e (length (a .out .now)),
+        c .before .before .before .before .refuse2 .ensures .2 ∙ ap blank (k .1 .1 .1 .1 .1 .1 .1 .1 .1 .1 .1 .1 .1 .0 ∙ y) ∙ refused-lives g (a .x) _ 6 e (length (a .out .now) / 16),
       ),
     )
 
