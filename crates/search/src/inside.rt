@@ -146,6 +146,7 @@ fn step(
             highs,
             lows,
             x,
+            first,
             length,
             h,
             l,
@@ -163,13 +164,14 @@ fn step(
     r
 }
 
-// Over the unused records of the name x.
+// Over the unused records of the name x, from the first of them on.
 fn search(
     owners: &[u16],
     heads: &[u64; RECORDS],
     highs: &[u64; RECORDS],
     lows: &[u64; RECORDS],
     x: usize,
+    first: usize,
     bound: u8,
     high: u64,
     low: u64,
@@ -183,12 +185,11 @@ fn search(
     work: u64,
 ) -> u64
     requires { ⌜ Fit (records (now owners) (now heads) (now highs) (now lows)) (memory (now next) (now prev) (now out) (now lives) (now figures) work) bound limit ⌝ }
-    requires { ⌜ x < maxNames ⌝ }
+    requires { ⌜ (x < maxNames) × (first ≡ getD (now next) (length (now owners) + x) 0) ⌝ }
     ensures { λ r. ⌜ Done (memory (now (next .entry)) (now (prev .entry)) (now (out .entry)) (now (lives .entry)) (now (figures .entry)) work) (memory (now (next .exit)) (now (prev .exit)) (now (out .exit)) (now (lives .exit)) (now (figures .exit)) r) (searchOf (records (now (owners .entry)) (now (heads .entry)) (now (highs .entry)) (now (lows .entry))) limit x bound (addressOf high low) ttl (memory (now (next .entry)) (now (prev .entry)) (now (out .entry)) (now (lives .entry)) (now (figures .entry)) work)) ⌝ }
 {
     let mut s = work;
-    let head = owners.len() + x;
-    let mut i = octets::numbers::wide(next[head]);
+    let mut i = first;
     while i < owners.len() {
         if limit < s {
             return s;
@@ -249,12 +250,15 @@ pub fn find(
     links::link(owners, &mut next, &mut prev);
     let mut figures = [0usize; FIGURES];
     let most = limit as u64;
+    let head = owners.len() + x;
+    let first = octets::numbers::wide(next[head]);
     let work = search(
         owners,
         heads,
         highs,
         lows,
         x,
+        first,
         128,
         0,
         0,

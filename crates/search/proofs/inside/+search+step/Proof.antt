@@ -35,7 +35,7 @@ use Rattle.search.proofs.inside.+search+step.{statement}
 use Rattle.search.proofs.inside.+search+step.Tie.{close}
 
 abbrev μ-search : Measures 9 search-kinds.ps ℕ
-μ-search κs a = 2 * free (marksOf (length (a .0 .now)) (a .1 .1 .1 .1 .1 .1 .1 .1 .1 .0 .now) (a .1 .1 .1 .1 .1 .1 .1 .1 .1 .1 .0 .now)) + 1
+μ-search κs a = 2 * free (marksOf (length (a .0 .now)) (a .1 .1 .1 .1 .1 .1 .1 .1 .1 .1 .0 .now) (a .1 .1 .1 .1 .1 .1 .1 .1 .1 .1 .1 .0 .now)) + 1
 
 abbrev μ-step : Measures 9 step-kinds.ps ℕ
 μ-step κs a = 2 * free (marksOf (length (a .0 .now)) (a .1 .1 .1 .1 .1 .1 .1 .1 .1 .0 .now) (a .1 .1 .1 .1 .1 .1 .1 .1 .1 .1 .0 .now))
@@ -53,151 +53,111 @@ abbrev step-below : ℕ → In 9 step-kinds.ps
 step-below t = and 9 step-kinds.ps (falls 9 step-kinds.ps _<_ μ-step t) step.Pre
 
 abbrev search-Inv-loop : search-lts.InvT-loop
-search-Inv-loop owners heads highs lows x bound high low ttl next₀ prev₀ limit out₀ lives₀ figures₀ work s₀ head i₀ next prev out lives figures s i = Going (records owners heads highs lows) limit x bound (addressOf high low) ttl (memory next₀ prev₀ out₀ lives₀ figures₀ s₀) (memory next prev out lives figures s) i
+search-Inv-loop owners heads highs lows x first bound high low ttl next₀ prev₀ limit out₀ lives₀ figures₀ work s₀ i₀ next prev out lives figures s i = Going (records owners heads highs lows) limit x bound (addressOf high low) ttl (memory next₀ prev₀ out₀ lives₀ figures₀ s₀) (memory next prev out lives figures s) i
 
 abbrev search-μ-loop : search-lts.MeasureT-loop
-search-μ-loop owners heads highs lows x bound high low ttl next₀ prev₀ limit out₀ lives₀ figures₀ work s₀ head i₀ next prev out lives figures s i = length owners - i
-
-search-add-head : (t : ℕ) → search-lts.Need-add-head (
-  wide-reads.Asked,
-  wide-reads.Learnt,
-  length-reads.Asked,
-  length-reads.Learnt,
-  step-below t,
-  step.Post,
-) (search-at t) search′.Post search-Inv-loop search-μ-loop
-search-add-head t c = omega (arith, c .before .before .before .pre .1 .0 .numbered .owned .few, c .before .before .before .pre .1 .1)
-
-search-mul-wide : (t : ℕ) → search-lts.Need-mul-wide (
-  wide-reads.Asked,
-  wide-reads.Learnt,
-  length-reads.Asked,
-  length-reads.Learnt,
-  step-below t,
-  step.Post,
-) (search-at t) search′.Post search-Inv-loop search-μ-loop
-search-mul-wide t c = omega (arith, c .before .before .before .pre .1 .0 .numbered .owned .few, c .before .before .before .pre .1 .1)
-
-search-element-copy-out-wide : (t : ℕ) → search-lts.Need-element-copy-out-wide (
-  wide-reads.Asked,
-  wide-reads.Learnt,
-  length-reads.Asked,
-  length-reads.Learnt,
-  step-below t,
-  step.Post,
-) (search-at t) search′.Post search-Inv-loop search-μ-loop
-search-element-copy-out-wide t c = omega (arith, c .before .before .before .pre .1 .0 .numbered .owned .few, c .before .before .before .pre .1 .1)
-
-search-wide-requires : (t : ℕ) → search-lts.Need-wide-requires (
-  wide-reads.Asked,
-  wide-reads.Learnt,
-  length-reads.Asked,
-  length-reads.Learnt,
-  step-below t,
-  step.Post,
-) (search-at t) search′.Post search-Inv-loop search-μ-loop
-search-wide-requires t c κs = search needs
+search-μ-loop owners heads highs lows x first bound high low ttl next₀ prev₀ limit out₀ lives₀ figures₀ work s₀ i₀ next prev out lives figures s i = length owners - i
 
 search-loop-holds : (t : ℕ) → search-lts.Need-loop-holds (
-  wide-reads.Asked,
-  wide-reads.Learnt,
   length-reads.Asked,
   length-reads.Learnt,
   step-below t,
   step.Post,
+  wide-reads.Asked,
+  wide-reads.Learnt,
 ) (search-at t) search′.Post search-Inv-loop search-μ-loop
 search-loop-holds t c =
-    let a = c .before .before .before .before .before .args in
+    let a = c .before .before .before .args in
     let table = records (a .owners .now) (a .heads .now) (a .highs .now) (a .lows .now) in
     let start = memory (a .next .now) (a .prev .now) (a .out .now) (a .lives .now) (a .figures .now) (a .work) in
-    let f = c .before .before .before .before .before .pre .1 .0 in
-    going-start table (a .limit) (a .x) (a .bound) (addressOf (a .high) (a .low)) (a .ttl) start (f .linked) _ (f .places) (omega (arith, f .nodes, f .numbered .owned .few, c .before .before .before .before .before .pre .1 .1)) (f .room) (c .wide .ensures)
+    let f = c .before .before .before .pre .1 .0 in
+    going-start table (a .limit) (a .x) (a .bound) (addressOf (a .high) (a .low)) (a .ttl) start (f .linked) _ (f .places) (omega (arith, f .nodes, f .numbered .owned .few, c .before .before .before .pre .1 .1 .0)) (f .room) (c .before .before .before .pre .1 .1 .1)
 
 search-same-length : (t : ℕ) → search-lts.Need-same-length (
-  wide-reads.Asked,
-  wide-reads.Learnt,
   length-reads.Asked,
   length-reads.Learnt,
   step-below t,
   step.Post,
+  wide-reads.Asked,
+  wide-reads.Learnt,
 ) (search-at t) search′.Post search-Inv-loop search-μ-loop
 search-same-length t c = c .before .before .loop .inv .out
 
 search-same-length-2 : (t : ℕ) → search-lts.Need-same-length-2 (
-  wide-reads.Asked,
-  wide-reads.Learnt,
   length-reads.Asked,
   length-reads.Learnt,
   step-below t,
   step.Post,
+  wide-reads.Asked,
+  wide-reads.Learnt,
 ) (search-at t) search′.Post search-Inv-loop search-μ-loop
 search-same-length-2 t c = c .before .before .loop .inv .lives
 
 search-returns : (t : ℕ) → search-lts.Need-returns (
-  wide-reads.Asked,
-  wide-reads.Learnt,
   length-reads.Asked,
   length-reads.Learnt,
   step-below t,
   step.Post,
+  wide-reads.Asked,
+  wide-reads.Learnt,
 ) (search-at t) search′.Post search-Inv-loop search-μ-loop
 search-returns t c =
-    let a = c .before .before .before .before .before .before .before .before .args in
+    let a = c .before .before .before .before .before .before .args in
     let table = records (a .owners .now) (a .heads .now) (a .highs .now) (a .lows .now) in
     let start = memory (a .next .now) (a .prev .now) (a .out .now) (a .lives .now) (a .figures .now) (a .work) in
-    let f = c .before .before .before .before .before .before .before .before .pre .1 .0 in
+    let f = c .before .before .before .before .before .before .pre .1 .0 in
     let l = c .before .before .loop in
     let here = memory (l .next) (l .prev) (l .out) (l .lives) (l .figures) (l .s) in
     going-over table (a .limit) (a .x) (a .bound) (addressOf (a .high) (a .low)) (a .ttl) start (f .linked) here (l .i) (l .inv) (c .before .loop-test .taken) (c .if1 .taken)
 
 search-mul-length-in : (t : ℕ) → search-lts.Need-mul-length-in (
-  wide-reads.Asked,
-  wide-reads.Learnt,
   length-reads.Asked,
   length-reads.Learnt,
   step-below t,
   step.Post,
+  wide-reads.Asked,
+  wide-reads.Learnt,
 ) (search-at t) search′.Post search-Inv-loop search-μ-loop
-search-mul-length-in t c = omega (arith, c .before .before .before .before .before .before .before .before .pre .1 .0 .numbered .owned .few, c .before .loop-test .taken)
+search-mul-length-in t c = omega (arith, c .before .before .before .before .before .before .pre .1 .0 .numbered .owned .few, c .before .loop-test .taken)
 
 search-element-copy-out-length-in : (t : ℕ) → search-lts.Need-element-copy-out-length-in (
-  wide-reads.Asked,
-  wide-reads.Learnt,
   length-reads.Asked,
   length-reads.Learnt,
   step-below t,
   step.Post,
+  wide-reads.Asked,
+  wide-reads.Learnt,
 ) (search-at t) search′.Post search-Inv-loop search-μ-loop
-search-element-copy-out-length-in t c = omega (arith, c .before .before .before .before .before .before .before .before .pre .1 .0 .numbered .owned .few, c .before .loop-test .taken)
+search-element-copy-out-length-in t c = omega (arith, c .before .before .before .before .before .before .pre .1 .0 .numbered .owned .few, c .before .loop-test .taken)
 
 search-length-in-requires : (t : ℕ) → search-lts.Need-length-in-requires (
-  wide-reads.Asked,
-  wide-reads.Learnt,
   length-reads.Asked,
   length-reads.Learnt,
   step-below t,
   step.Post,
+  wide-reads.Asked,
+  wide-reads.Learnt,
 ) (search-at t) search′.Post search-Inv-loop search-μ-loop
 search-length-in-requires t c κs = search needs
 
 search-step-requires : (t : ℕ) → search-lts.Need-step-requires (
-  wide-reads.Asked,
-  wide-reads.Learnt,
   length-reads.Asked,
   length-reads.Learnt,
   step-below t,
   step.Post,
+  wide-reads.Asked,
+  wide-reads.Learnt,
 ) (search-at t) search′.Post search-Inv-loop search-μ-loop
 search-step-requires t c κs =
-    let a = c .before .before .before .before .before .before .before .before .before .before .before .before .before .before .before .before .args in
+    let a = c .before .before .before .before .before .before .before .before .before .before .before .before .before .before .args in
     let table = records (a .owners .now) (a .heads .now) (a .highs .now) (a .lows .now) in
     let start = memory (a .next .now) (a .prev .now) (a .out .now) (a .lives .now) (a .figures .now) (a .work) in
-    let f = c .before .before .before .before .before .before .before .before .before .before .before .before .before .before .before .before .pre .1 .0 in
+    let f = c .before .before .before .before .before .before .before .before .before .before .before .before .before .before .pre .1 .0 in
     let l = c .before .before .before .before .before .before .before .before .before .before .loop in
     let here = memory (l .next) (l .prev) (l .out) (l .lives) (l .figures) (l .s) in
     let li = c .before .before .before .before .before .before .before .before .before .loop-test .taken in
     let e = same-unused table (a .limit) (a .x) (a .bound) (addressOf (a .high) (a .low)) (a .ttl) start (f .linked) here (l .i) (l .inv) li in (
-      omega (arith, c .before .before .before .before .before .before .before .before .before .before .before .before .before .before .before .before .pre .0, ap free e),
+      omega (arith, c .before .before .before .before .before .before .before .before .before .before .before .before .before .before .pre .0, ap free e),
       (
         going-fit table (a .limit) (a .x) (a .bound) (addressOf (a .high) (a .low)) (a .ttl) start (f .linked) here (l .i) (l .inv) li f (address-length (a .high) (a .low)),
         (
@@ -209,70 +169,70 @@ search-step-requires t c κs =
       ),
     )
 
-search-mul-wide-2 : (t : ℕ) → search-lts.Need-mul-wide-2 (
-  wide-reads.Asked,
-  wide-reads.Learnt,
+search-mul-wide : (t : ℕ) → search-lts.Need-mul-wide (
   length-reads.Asked,
   length-reads.Learnt,
   step-below t,
   step.Post,
+  wide-reads.Asked,
+  wide-reads.Learnt,
 ) (search-at t) search′.Post search-Inv-loop search-μ-loop
-search-mul-wide-2 t c = omega (arith, c .before .before .before .before .before .before .before .before .before .before .before .pre .1 .0 .numbered .owned .few, c .before .before .before .before .loop-test .taken)
+search-mul-wide t c = omega (arith, c .before .before .before .before .before .before .before .before .before .pre .1 .0 .numbered .owned .few, c .before .before .before .before .loop-test .taken)
 
-search-element-copy-out-wide-2 : (t : ℕ) → search-lts.Need-element-copy-out-wide-2 (
-  wide-reads.Asked,
-  wide-reads.Learnt,
+search-element-copy-out-wide : (t : ℕ) → search-lts.Need-element-copy-out-wide (
   length-reads.Asked,
   length-reads.Learnt,
   step-below t,
   step.Post,
+  wide-reads.Asked,
+  wide-reads.Learnt,
 ) (search-at t) search′.Post search-Inv-loop search-μ-loop
-search-element-copy-out-wide-2 t c = omega (arith, c .before .before .before .before .before .before .before .before .before .before .before .pre .1 .0 .numbered .owned .few, c .before .before .before .before .loop-test .taken)
+search-element-copy-out-wide t c = omega (arith, c .before .before .before .before .before .before .before .before .before .pre .1 .0 .numbered .owned .few, c .before .before .before .before .loop-test .taken)
 
-search-wide-requires-2 : (t : ℕ) → search-lts.Need-wide-requires-2 (
-  wide-reads.Asked,
-  wide-reads.Learnt,
+search-wide-requires : (t : ℕ) → search-lts.Need-wide-requires (
   length-reads.Asked,
   length-reads.Learnt,
   step-below t,
   step.Post,
+  wide-reads.Asked,
+  wide-reads.Learnt,
 ) (search-at t) search′.Post search-Inv-loop search-μ-loop
-search-wide-requires-2 t c κs = search needs
+search-wide-requires t c κs = search needs
 
 search-loop-less : (t : ℕ) → search-lts.Need-loop-less (
-  wide-reads.Asked,
-  wide-reads.Learnt,
   length-reads.Asked,
   length-reads.Learnt,
   step-below t,
   step.Post,
+  wide-reads.Asked,
+  wide-reads.Learnt,
 ) (search-at t) search′.Post search-Inv-loop search-μ-loop
 search-loop-less t c =
-    let a = c .before .before .before .before .before .before .before .before .before .before .before .before .before .args in
+    let a = c .before .before .before .before .before .before .before .before .before .before .before .args in
     let table = records (a .owners .now) (a .heads .now) (a .highs .now) (a .lows .now) in
     let start = memory (a .next .now) (a .prev .now) (a .out .now) (a .lives .now) (a .figures .now) (a .work) in
-    let f = c .before .before .before .before .before .before .before .before .before .before .before .before .before .pre .1 .0 in
+    let f = c .before .before .before .before .before .before .before .before .before .before .before .pre .1 .0 in
     let l = c .before .before .before .before .before .before .before .loop in
     let here = memory (l .next) (l .prev) (l .out) (l .lives) (l .figures) (l .s) in
     let li = c .before .before .before .before .before .before .loop-test .taken in
     let e : c .before .before .if2 .next ≡ l .next = ⊎-elim (λ w. w .11 ∙ w .6 .ensures .next) (λ w. w .1) (c .before .before .if2 .came) in
     let m = further table (a .limit) (a .x) (a .bound) (addressOf (a .high) (a .low)) (a .ttl) start (f .linked) here (l .i) (l .inv) li in
-    let r : c .wide2 .result ≡ getD (l .next) (l .i) 0 = c .wide2 .ensures ∙ ap (λ (v : List ℕ). getD v (l .i) 0) e in
+    let r : c .wide .result ≡ getD (l .next) (l .i) 0 = c .wide .ensures ∙ ap (λ (v : List ℕ). getD v (l .i) 0) e in
     omega (arith, m, r, li)
 
 search-loop-again : (t : ℕ) → search-lts.Need-loop-again (
-  wide-reads.Asked,
-  wide-reads.Learnt,
   length-reads.Asked,
   length-reads.Learnt,
   step-below t,
   step.Post,
+  wide-reads.Asked,
+  wide-reads.Learnt,
 ) (search-at t) search′.Post search-Inv-loop search-μ-loop
 search-loop-again t c =
-    let a = c .before .before .before .before .before .before .before .before .before .before .before .before .before .args in
+    let a = c .before .before .before .before .before .before .before .before .before .before .before .args in
     let table = records (a .owners .now) (a .heads .now) (a .highs .now) (a .lows .now) in
     let start = memory (a .next .now) (a .prev .now) (a .out .now) (a .lives .now) (a .figures .now) (a .work) in
-    let f = c .before .before .before .before .before .before .before .before .before .before .before .before .before .pre .1 .0 in
+    let f = c .before .before .before .before .before .before .before .before .before .before .before .pre .1 .0 in
     let l = c .before .before .before .before .before .before .before .loop in
     let here = memory (l .next) (l .prev) (l .out) (l .lives) (l .figures) (l .s) in
     let li = c .before .before .before .before .before .before .loop-test .taken in
@@ -282,48 +242,48 @@ search-loop-again t c =
     ⊎-elim
     (λ w.
     going-step table (a .limit) (a .x) (a .bound) (addressOf (a .high) (a .low)) (a .ttl) start (f .linked) here (l .i) (l .inv) li
-    there (c .wide2 .result) (le-leb (lengthOf table (l .i)) (a .bound) (omega (arith, n, w .0 .taken)))
+    there (c .wide .result) (le-leb (lengthOf table (l .i)) (a .bound) (omega (arith, n, w .0 .taken)))
     (done-as here _ there (stepOf table (a .limit) (l .i) (a .bound) (addressOf (a .high) (a .low)) (a .ttl) here) (memory-eq (w .11) (w .12) (w .13) (w .14) (w .15) (w .16)) (w .6 .ensures))
-    (ap length (w .13) ∙ w .6 .kept .1 .1 .1 .1 .1 .1 .1 .1 .1 .1 .1 .1 .0) (ap length (w .14) ∙ w .6 .kept .1 .1 .1 .1 .1 .1 .1 .1 .1 .1 .1 .1 .1 .0) (c .wide2 .ensures))
+    (ap length (w .13) ∙ w .6 .kept .1 .1 .1 .1 .1 .1 .1 .1 .1 .1 .1 .1 .0) (ap length (w .14) ∙ w .6 .kept .1 .1 .1 .1 .1 .1 .1 .1 .1 .1 .1 .1 .1 .0) (c .wide .ensures))
     (λ w.
-    subst (λ (m : Memory). Going table (a .limit) (a .x) (a .bound) (addressOf (a .high) (a .low)) (a .ttl) start m (c .wide2 .result)) (sym (memory-eq (w .1) (w .2) (w .3) (w .4) (w .5) (w .6)))
-    (going-skip table (a .limit) (a .x) (a .bound) (addressOf (a .high) (a .low)) (a .ttl) start (f .linked) here (l .i) (l .inv) li (c .wide2 .result) (lt-leb (lengthOf table (l .i)) (a .bound) (omega (arith, n, w .0 .left)))
-    (c .wide2 .ensures ∙ ap (λ (v : List ℕ). getD v (l .i) 0) (w .1))))
+    subst (λ (m : Memory). Going table (a .limit) (a .x) (a .bound) (addressOf (a .high) (a .low)) (a .ttl) start m (c .wide .result)) (sym (memory-eq (w .1) (w .2) (w .3) (w .4) (w .5) (w .6)))
+    (going-skip table (a .limit) (a .x) (a .bound) (addressOf (a .high) (a .low)) (a .ttl) start (f .linked) here (l .i) (l .inv) li (c .wide .result) (lt-leb (lengthOf table (l .i)) (a .bound) (omega (arith, n, w .0 .left)))
+    (c .wide .ensures ∙ ap (λ (v : List ℕ). getD v (l .i) 0) (w .1))))
     (j .came)
 
 search-same-length-3 : (t : ℕ) → search-lts.Need-same-length-3 (
-  wide-reads.Asked,
-  wide-reads.Learnt,
   length-reads.Asked,
   length-reads.Learnt,
   step-below t,
   step.Post,
+  wide-reads.Asked,
+  wide-reads.Learnt,
 ) (search-at t) search′.Post search-Inv-loop search-μ-loop
 search-same-length-3 t c = c .before .loop .inv .out
 
 search-same-length-4 : (t : ℕ) → search-lts.Need-same-length-4 (
-  wide-reads.Asked,
-  wide-reads.Learnt,
   length-reads.Asked,
   length-reads.Learnt,
   step-below t,
   step.Post,
+  wide-reads.Asked,
+  wide-reads.Learnt,
 ) (search-at t) search′.Post search-Inv-loop search-μ-loop
 search-same-length-4 t c = c .before .loop .inv .lives
 
 search-returns-2 : (t : ℕ) → search-lts.Need-returns-2 (
-  wide-reads.Asked,
-  wide-reads.Learnt,
   length-reads.Asked,
   length-reads.Learnt,
   step-below t,
   step.Post,
+  wide-reads.Asked,
+  wide-reads.Learnt,
 ) (search-at t) search′.Post search-Inv-loop search-μ-loop
 search-returns-2 t c =
-    let a = c .before .before .before .before .before .before .before .args in
+    let a = c .before .before .before .before .before .args in
     let table = records (a .owners .now) (a .heads .now) (a .highs .now) (a .lows .now) in
     let start = memory (a .next .now) (a .prev .now) (a .out .now) (a .lives .now) (a .figures .now) (a .work) in
-    let f = c .before .before .before .before .before .before .before .pre .1 .0 in
+    let f = c .before .before .before .before .before .pre .1 .0 in
     let l = c .before .loop in
     let here = memory (l .next) (l .prev) (l .out) (l .lives) (l .figures) (l .s) in
     going-end table (a .limit) (a .x) (a .bound) (addressOf (a .high) (a .low)) (a .ttl) start (f .linked) here (l .i) (l .inv) (c .loop-test .left)
@@ -936,7 +896,7 @@ step-search-requires t c κs =
       omega (arith, c .before .before .before .before .before .before .before .before .before .before .before .before .before .before .before .before .before .before .before .before .before .before .before .before .before .pre .0, fewer table start (a .bound) (a .limit) (a .i) (p .0) (p .1 .0) (p .1 .1) (c .before .before .before .before .before .before .before .before .before .before .before .before .before .wide .result) (c .before .before .before .before .before .before .before .before .before .before .before .wide2 .result) (c .before .before .before .before .before .before .before .before .before .before .before .before .before .wide .ensures) (c .before .before .before .before .before .before .before .before .before .before .before .wide2 .ensures) (c .before .before .before .before .before .before .before .before .unlink .last .1 .1 .0) (c .before .before .before .before .before .before .before .before .unlink .last .1 .1 .1 .0) (c .before .before .before .before .before .before .before .before .unlink .ensures .0) (c .before .before .before .before .before .before .before .before .unlink .ensures .1)),
       (
         fit-without table start (a .bound) (a .limit) (a .i) (p .0) (p .1 .0) (p .1 .1) (c .before .before .before .before .before .before .before .before .before .before .before .before .before .wide .result) (c .before .before .before .before .before .before .before .before .before .before .before .wide2 .result) (c .before .before .before .before .before .before .before .before .before .before .before .before .before .wide .ensures) (c .before .before .before .before .before .before .before .before .before .before .before .wide2 .ensures) (c .before .before .before .before .before .before .before .before .unlink .last .1 .1 .0) (c .before .before .before .before .before .before .before .before .unlink .last .1 .1 .1 .0) (c .before .before .before .before .before .before .before .before .unlink .ensures .0) (c .before .before .before .before .before .before .before .before .unlink .ensures .1) (c .before .before .before .before .before .before .before .before .before .before .before .before .before .before .before .before .before .before .before .before .length-in .result) o (omega (arith, c .before .before .before .before .before .before .before .before .before .before .before .before .before .before .before .before .before .before .before .before .length-in .ensures, p .1 .2)),
-        omega (arith, c .before .before .before .before .before .before .before .before .before .before .before .before .before .before .before .target-in .ensures, p .0 .numbered .owned .few, p .0 .numbered .target (a .i) (p .1 .0) (omega (arith, c .before .before .before .before .before .before .before .before .before .before .before .before .before .before .before .before .if1 .left))),
+        (omega (arith, c .before .before .before .before .before .before .before .before .before .before .before .before .before .before .before .target-in .ensures, p .0 .numbered .owned .few, p .0 .numbered .target (a .i) (p .1 .0) (omega (arith, c .before .before .before .before .before .before .before .before .before .before .before .before .before .before .before .before .if1 .left))), c .before .before .before .before .before .before .wide3 .ensures),
       ),
     )
 
@@ -1046,7 +1006,7 @@ step-same-length-3 : (t : ℕ) → step-lts.Need-same-length-3 (
   relink-reads.Asked,
   relink-reads.Learnt,
 ) (step-at t) step.Post
-step-same-length-3 t c = ⊎-elim (λ w. ap length (w .13) ∙ w .6 .kept .1 .1 .1 .1 .1 .1 .1 .1 .1 .1 .1 .1 .0) (λ w. ap length (w .3)) (c .before .before .before .if2 .came)
+step-same-length-3 t c = ⊎-elim (λ w. ap length (w .13) ∙ w .6 .kept .1 .1 .1 .1 .1 .1 .1 .1 .1 .1 .1 .1 .1 .0) (λ w. ap length (w .3)) (c .before .before .before .if2 .came)
 
 step-same-length-4 : (t : ℕ) → step-lts.Need-same-length-4 (
   length-reads.Asked,
@@ -1070,7 +1030,7 @@ step-same-length-4 : (t : ℕ) → step-lts.Need-same-length-4 (
   relink-reads.Asked,
   relink-reads.Learnt,
 ) (step-at t) step.Post
-step-same-length-4 t c = ⊎-elim (λ w. ap length (w .14) ∙ w .6 .kept .1 .1 .1 .1 .1 .1 .1 .1 .1 .1 .1 .1 .1 .0) (λ w. ap length (w .4)) (c .before .before .before .if2 .came)
+step-same-length-4 t c = ⊎-elim (λ w. ap length (w .14) ∙ w .6 .kept .1 .1 .1 .1 .1 .1 .1 .1 .1 .1 .1 .1 .1 .1 .0) (λ w. ap length (w .4)) (c .before .before .before .if2 .came)
 
 step-returns-2 : (t : ℕ) → step-lts.Need-returns-2 (
   length-reads.Asked,
@@ -1111,21 +1071,17 @@ step-returns-2 t c =
 
 pub +search+step-spec : {M : Type 1} → statement M
 +search+step-spec = close μ-search μ-step (λ t. search-lts.spec (
-  wide-reads.Asked,
-  wide-reads.Learnt,
   length-reads.Asked,
   length-reads.Learnt,
   step-below t,
   step.Post,
+  wide-reads.Asked,
+  wide-reads.Learnt,
 )
     (search-at t)
     search′.Post
     search-Inv-loop
     search-μ-loop
-    (search-add-head t)
-    (search-mul-wide t)
-    (search-element-copy-out-wide t)
-    (search-wide-requires t)
     (search-loop-holds t)
     (search-same-length t)
     (search-same-length-2 t)
@@ -1134,9 +1090,9 @@ pub +search+step-spec : {M : Type 1} → statement M
     (search-element-copy-out-length-in t)
     (search-length-in-requires t)
     (search-step-requires t)
-    (search-mul-wide-2 t)
-    (search-element-copy-out-wide-2 t)
-    (search-wide-requires-2 t)
+    (search-mul-wide t)
+    (search-element-copy-out-wide t)
+    (search-wide-requires t)
     (search-loop-less t)
     (search-loop-again t)
     (search-same-length-3 t)

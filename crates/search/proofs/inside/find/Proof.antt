@@ -23,23 +23,35 @@ sound c = numbered-sound (given c) (c .pre .0 .0)
 
 -- the memory that it leaves
 abbrev left : tie.After-search → Memory
-left c = memory (c .search .last .1 .1 .1 .1 .1 .1 .1 .1 .1 .0) (c .search .last .1 .1 .1 .1 .1 .1 .1 .1 .1 .1 .0) (c .search .last .1 .1 .1 .1 .1 .1 .1 .1 .1 .1 .1 .1 .0) (c .search .last .1 .1 .1 .1 .1 .1 .1 .1 .1 .1 .1 .1 .1 .0) (c .search .last .1 .1 .1 .1 .1 .1 .1 .1 .1 .1 .1 .1 .1 .1 .0) (c .search .result)
+left c = memory (c .search .last .1 .1 .1 .1 .1 .1 .1 .1 .1 .1 .0) (c .search .last .1 .1 .1 .1 .1 .1 .1 .1 .1 .1 .1 .0) (c .search .last .1 .1 .1 .1 .1 .1 .1 .1 .1 .1 .1 .1 .1 .0) (c .search .last .1 .1 .1 .1 .1 .1 .1 .1 .1 .1 .1 .1 .1 .1 .0) (c .search .last .1 .1 .1 .1 .1 .1 .1 .1 .1 .1 .1 .1 .1 .1 .1 .0) (c .search .result)
 
 ran : (c : tie.After-search) → stateOf (left c)
-    ≡ searched (graphOf (given (c .before .before .before .before .before .before .before .before .before .before .before .before))) (c .before .before .before .before .before .before .before .before .before .before .before .before .args .limit) (blank (length (c .before .before .before .before .before .before .before .before .before .before .before .before .args .owners .now))) (c .before .before .before .before .before .before .before .before .before .before .before .before .args .x) 128 (blank 16) maxTtl (0, start (length (c .before .before .before .before .before .before .before .before .before .before .before .before .args .out .now) / 16))
+    ≡ searched (graphOf (given (c .before .before .before .before .before .before .before .before .before .before .before .before .before))) (c .before .before .before .before .before .before .before .before .before .before .before .before .before .args .limit) (blank (length (c .before .before .before .before .before .before .before .before .before .before .before .before .before .args .owners .now))) (c .before .before .before .before .before .before .before .before .before .before .before .before .before .args .x) 128 (blank 16) maxTtl (0, start (length (c .before .before .before .before .before .before .before .before .before .before .before .before .before .args .out .now) / 16))
 ran c =
-    let p = c .before .before .before .before .before .before .before .before .before .before .before .before .pre in
-    let a = c .before .before .before .before .before .before .before .before .before .before .before .before .args in
-    state-first (given (c .before .before .before .before .before .before .before .before .before .before .before .before)) (p .0 .0) (c .before .before .before .before .before .before .link .last .1 .0) (c .before .before .before .before .before .before .link .last .1 .1 .0) (a .out .now) (a .lives .now) (a .limit) (c .before .before .before .before .before .before .link .ensures) (p .1 .0) (p .1 .1) (p .1 .2) (p .1 .3) (a .x) (left c) (c .search .ensures)
+    let p = c .before .before .before .before .before .before .before .before .before .before .before .before .before .pre in
+    let a = c .before .before .before .before .before .before .before .before .before .before .before .before .before .args in
+    state-first (given (c .before .before .before .before .before .before .before .before .before .before .before .before .before)) (p .0 .0) (c .before .before .before .before .before .before .before .link .last .1 .0) (c .before .before .before .before .before .before .before .link .last .1 .1 .0) (a .out .now) (a .lives .now) (a .limit) (c .before .before .before .before .before .before .before .link .ensures) (p .1 .0) (p .1 .1) (p .1 .2) (p .1 .3) (a .x) (left c) (c .search .ensures)
 
 link-requires : tie.Need-link-requires
 link-requires c κs = search needs
 
+add-head : tie.Need-add-head
+add-head c = search needs
+
+mul-wide : tie.Need-mul-wide
+mul-wide c = search needs
+
+array-read-wide : tie.Need-array-read-wide
+array-read-wide c = search needs
+
+wide-requires : tie.Need-wide-requires
+wide-requires c κs = search needs
+
 search-requires : tie.Need-search-requires
 search-requires c κs =
-    let p = c .before .before .before .before .before .before .before .before .before .before .before .pre in
-    let a = c .before .before .before .before .before .before .before .before .before .before .before .args in
-    (fit-first (given (c .before .before .before .before .before .before .before .before .before .before .before)) (p .0 .0) (c .before .before .before .before .before .link .last .1 .0) (c .before .before .before .before .before .link .last .1 .1 .0) (a .out .now) (a .lives .now) (a .limit) (c .before .before .before .before .before .link .ensures) (p .1 .0) (p .1 .1) (p .1 .2) (p .1 .3) (omega arith), p .0 .1)
+    let p = c .before .before .before .before .before .before .before .before .before .before .before .before .pre in
+    let a = c .before .before .before .before .before .before .before .before .before .before .before .before .args in
+    (fit-first (given (c .before .before .before .before .before .before .before .before .before .before .before .before)) (p .0 .0) (c .before .before .before .before .before .before .link .last .1 .0) (c .before .before .before .before .before .before .link .last .1 .1 .0) (a .out .now) (a .lives .now) (a .limit) (c .before .before .before .before .before .before .link .ensures) (p .1 .0) (p .1 .1) (p .1 .2) (p .1 .3) (omega arith), (p .0 .1, c .before .before .before .before .before .wide .ensures))
 
 array-read-count : tie.Need-array-read-count
 array-read-count c = search needs
@@ -58,15 +70,15 @@ same-length-2 c = search needs
 
 returns : tie.Need-returns
 returns c =
-    let a = c .before .before .before .before .before .before .before .before .before .before .before .before .before .before .before .before .before .before .before .before .before .before .before .before .args in
-    let g = graphOf (given (c .before .before .before .before .before .before .before .before .before .before .before .before .before .before .before .before .before .before .before .before .before .before .before .before)) in
-    let e = found-over g (sound (c .before .before .before .before .before .before .before .before .before .before .before .before .before .before .before .before .before .before .before .before .before .before .before .before)) (a .x) (a .limit) (length (a .out .now) / 16) _ (ran (c .before .before .before .before .before .before .before .before .before .before .before .before)) (c .before .before .before .before .before .before .before .if1 .taken) in
+    let a = c .before .before .before .before .before .before .before .before .before .before .before .before .before .before .before .before .before .before .before .before .before .before .before .before .before .args in
+    let g = graphOf (given (c .before .before .before .before .before .before .before .before .before .before .before .before .before .before .before .before .before .before .before .before .before .before .before .before .before)) in
+    let e = found-over g (sound (c .before .before .before .before .before .before .before .before .before .before .before .before .before .before .before .before .before .before .before .before .before .before .before .before .before)) (a .x) (a .limit) (length (a .out .now) / 16) _ (ran (c .before .before .before .before .before .before .before .before .before .before .before .before)) (c .before .before .before .before .before .before .before .if1 .taken) in
     let k = c .before .before .before .before .before .before .before .before .before .before .before .before .search .kept in
-    let y : length (a .lives .now) ≡ length (a .out .now) / 16 = omega (arith, c .before .before .before .before .before .before .before .before .before .before .before .before .before .before .before .before .before .before .before .before .before .before .before .before .pre .1 .2) in (
+    let y : length (a .lives .now) ≡ length (a .out .now) / 16 = omega (arith, c .before .before .before .before .before .before .before .before .before .before .before .before .before .before .before .before .before .before .before .before .before .before .before .before .before .pre .1 .2) in (
       c .before .before .before .before .refuse .ensures .0 ∙ refused-answer g (a .x) _ 5 e,
       (
-        c .before .before .before .before .refuse .ensures .1 ∙ ap blank (k .1 .1 .1 .1 .1 .1 .1 .1 .1 .1 .1 .1 .0) ∙ refused-output g (a .x) _ 5 e (length (a .out .now)),
-        c .before .before .before .before .refuse .ensures .2 ∙ ap blank (k .1 .1 .1 .1 .1 .1 .1 .1 .1 .1 .1 .1 .1 .0 ∙ y) ∙ refused-lives g (a .x) _ 5 e (length (a .out .now) / 16),
+        c .before .before .before .before .refuse .ensures .1 ∙ ap blank (k .1 .1 .1 .1 .1 .1 .1 .1 .1 .1 .1 .1 .1 .0) ∙ refused-output g (a .x) _ 5 e (length (a .out .now)),
+        c .before .before .before .before .refuse .ensures .2 ∙ ap blank (k .1 .1 .1 .1 .1 .1 .1 .1 .1 .1 .1 .1 .1 .1 .0 ∙ y) ∙ refused-lives g (a .x) _ 5 e (length (a .out .now) / 16),
       ),
     )
 
@@ -81,22 +93,22 @@ same-length-4 c = search needs
 
 returns-2 : tie.Need-returns-2
 returns-2 c =
-    let a = c .before .before .before .before .before .before .before .before .before .before .before .before .before .before .before .before .before .before .before .before .before .before .before .before .before .args in
-    let g = graphOf (given (c .before .before .before .before .before .before .before .before .before .before .before .before .before .before .before .before .before .before .before .before .before .before .before .before .before)) in
-    let e = found-full g (sound (c .before .before .before .before .before .before .before .before .before .before .before .before .before .before .before .before .before .before .before .before .before .before .before .before .before)) (a .x) (a .limit) (length (a .out .now) / 16) _ (ran (c .before .before .before .before .before .before .before .before .before .before .before .before .before)) (c .before .before .before .before .before .before .before .before .if1 .left) (eq-eqb _ 1 (c .before .before .before .before .before .before .before .if2 .taken)) in
+    let a = c .before .before .before .before .before .before .before .before .before .before .before .before .before .before .before .before .before .before .before .before .before .before .before .before .before .before .args in
+    let g = graphOf (given (c .before .before .before .before .before .before .before .before .before .before .before .before .before .before .before .before .before .before .before .before .before .before .before .before .before .before)) in
+    let e = found-full g (sound (c .before .before .before .before .before .before .before .before .before .before .before .before .before .before .before .before .before .before .before .before .before .before .before .before .before .before)) (a .x) (a .limit) (length (a .out .now) / 16) _ (ran (c .before .before .before .before .before .before .before .before .before .before .before .before .before)) (c .before .before .before .before .before .before .before .before .if1 .left) (eq-eqb _ 1 (c .before .before .before .before .before .before .before .if2 .taken)) in
     let k = c .before .before .before .before .before .before .before .before .before .before .before .before .before .search .kept in
-    let y : length (a .lives .now) ≡ length (a .out .now) / 16 = omega (arith, c .before .before .before .before .before .before .before .before .before .before .before .before .before .before .before .before .before .before .before .before .before .before .before .before .before .pre .1 .2) in (
+    let y : length (a .lives .now) ≡ length (a .out .now) / 16 = omega (arith, c .before .before .before .before .before .before .before .before .before .before .before .before .before .before .before .before .before .before .before .before .before .before .before .before .before .before .pre .1 .2) in (
       c .before .before .before .before .refuse2 .ensures .0 ∙ refused-answer g (a .x) _ 6 e,
       (
-        c .before .before .before .before .refuse2 .ensures .1 ∙ ap blank (k .1 .1 .1 .1 .1 .1 .1 .1 .1 .1 .1 .1 .0) ∙ refused-output g (a .x) _ 6 e (length (a .out .now)),
-        c .before .before .before .before .refuse2 .ensures .2 ∙ ap blank (k .1 .1 .1 .1 .1 .1 .1 .1 .1 .1 .1 .1 .1 .0 ∙ y) ∙ refused-lives g (a .x) _ 6 e (length (a .out .now) / 16),
+        c .before .before .before .before .refuse2 .ensures .1 ∙ ap blank (k .1 .1 .1 .1 .1 .1 .1 .1 .1 .1 .1 .1 .1 .0) ∙ refused-output g (a .x) _ 6 e (length (a .out .now)),
+        c .before .before .before .before .refuse2 .ensures .2 ∙ ap blank (k .1 .1 .1 .1 .1 .1 .1 .1 .1 .1 .1 .1 .1 .1 .0 ∙ y) ∙ refused-lives g (a .x) _ 6 e (length (a .out .now) / 16),
       ),
     )
 
 cast-found : tie.Need-cast-found
 cast-found c =
-    let a = c .before .before .before .before .before .before .before .before .before .before .before .before .before .before .before .before .before .before .args in
-    omega (arith, found-few (graphOf (given (c .before .before .before .before .before .before .before .before .before .before .before .before .before .before .before .before .before .before))) (sound (c .before .before .before .before .before .before .before .before .before .before .before .before .before .before .before .before .before .before)) (a .x) (a .limit) (length (a .out .now) / 16) _ (ran (c .before .before .before .before .before .before)) (c .before .if1 .left) (ne-eqb _ 1 (c .if2 .left)))
+    let a = c .before .before .before .before .before .before .before .before .before .before .before .before .before .before .before .before .before .before .before .args in
+    omega (arith, found-few (graphOf (given (c .before .before .before .before .before .before .before .before .before .before .before .before .before .before .before .before .before .before .before))) (sound (c .before .before .before .before .before .before .before .before .before .before .before .before .before .before .before .before .before .before .before)) (a .x) (a .limit) (length (a .out .now) / 16) _ (ran (c .before .before .before .before .before .before)) (c .before .if1 .left) (ne-eqb _ 1 (c .if2 .left)))
 
 cast-spent : tie.Need-cast-spent
 cast-spent c = search needs
@@ -109,11 +121,11 @@ same-length-6 c = search needs
 
 returns-3 : tie.Need-returns-3
 returns-3 c =
-    let a = c .before .before .before .before .before .before .before .before .before .before .before .before .before .before .before .before .before .before .args in
-    let g = graphOf (given (c .before .before .before .before .before .before .before .before .before .before .before .before .before .before .before .before .before .before)) in
-    let w = sound (c .before .before .before .before .before .before .before .before .before .before .before .before .before .before .before .before .before .before) in
+    let a = c .before .before .before .before .before .before .before .before .before .before .before .before .before .before .before .before .before .before .before .args in
+    let g = graphOf (given (c .before .before .before .before .before .before .before .before .before .before .before .before .before .before .before .before .before .before .before)) in
+    let w = sound (c .before .before .before .before .before .before .before .before .before .before .before .before .before .before .before .before .before .before .before) in
     let n = length (a .out .now) / 16 in
-    let q : n * 16 ≡ length (a .out .now) = omega (arith, c .before .before .before .before .before .before .before .before .before .before .before .before .before .before .before .before .before .before .pre .1 .0) in (
+    let q : n * 16 ≡ length (a .out .now) = omega (arith, c .before .before .before .before .before .before .before .before .before .before .before .before .before .before .before .before .before .before .before .pre .1 .0) in (
       found-answer g w (a .x) (a .limit) n _ (ran (c .before .before .before .before .before .before)) (c .before .if1 .left) (ne-eqb _ 1 (c .if2 .left)),
       (
         found-output g w (a .x) (a .limit) n _ (ran (c .before .before .before .before .before .before)) (c .before .if1 .left) (ne-eqb _ 1 (c .if2 .left)) ∙ ap (outputOf g (a .x) _) q,
@@ -126,6 +138,10 @@ find-spec =
     tie.close
     (tie.spec
     link-requires
+    add-head
+    mul-wide
+    array-read-wide
+    wide-requires
     search-requires
     array-read-count
     array-read-full
