@@ -52,20 +52,48 @@ step-at t = and 9 step-kinds.ps (is 9 step-kinds.ps μ-step t) step.Pre
 abbrev step-below : ℕ → In 9 step-kinds.ps
 step-below t = and 9 step-kinds.ps (falls 9 step-kinds.ps _<_ μ-step t) step.Pre
 
-abbrev search-Inv-loop : search-lts.InvT-loop
-search-Inv-loop owners heads highs lows x first bound high low ttl next₀ prev₀ limit out₀ lives₀ figures₀ work s₀ i₀ next prev out lives figures s i = Going (records owners heads highs lows) limit x bound (addressOf high low) ttl (memory next₀ prev₀ out₀ lives₀ figures₀ s₀) (memory next prev out lives figures s) i
-
-abbrev search-μ-loop : search-lts.MeasureT-loop
-search-μ-loop owners heads highs lows x first bound high low ttl next₀ prev₀ limit out₀ lives₀ figures₀ work s₀ i₀ next prev out lives figures s i = length owners - i
-
-search-loop-holds : (t : ℕ) → search-lts.Need-loop-holds (
+-- what is known of the functions that they call
+abbrev search-claims : ℕ → search-lts.Claims
+search-claims t = (
   length-reads.Asked,
   length-reads.Learnt,
   step-below t,
   step.Post,
   wide-reads.Asked,
   wide-reads.Learnt,
-) (search-at t) search′.Post search-Inv-loop search-μ-loop
+)
+
+abbrev step-claims : ℕ → step-lts.Claims
+step-claims t = (
+  length-reads.Asked,
+  length-reads.Learnt,
+  joined-reads.Asked,
+  joined-reads.Learnt,
+  ttl-reads.Asked,
+  ttl-reads.Learnt,
+  lesser-reads.Asked,
+  lesser-reads.Learnt,
+  keep-reads.Asked,
+  keep-reads.Learnt,
+  target-reads.Asked,
+  target-reads.Learnt,
+  wide-reads.Asked,
+  wide-reads.Learnt,
+  unlink-reads.Asked,
+  unlink-reads.Learnt,
+  search-below t,
+  search′.Post,
+  relink-reads.Asked,
+  relink-reads.Learnt,
+)
+
+abbrev search-Inv-loop : search-lts.InvT-loop
+search-Inv-loop owners heads highs lows x first bound high low ttl next₀ prev₀ limit out₀ lives₀ figures₀ work s₀ i₀ next prev out lives figures s i = Going (records owners heads highs lows) limit x bound (addressOf high low) ttl (memory next₀ prev₀ out₀ lives₀ figures₀ s₀) (memory next prev out lives figures s) i
+
+abbrev search-μ-loop : search-lts.MeasureT-loop
+search-μ-loop owners heads highs lows x first bound high low ttl next₀ prev₀ limit out₀ lives₀ figures₀ work s₀ i₀ next prev out lives figures s i = length owners - i
+
+search-loop-holds : (t : ℕ) → search-lts.Need-loop-holds (search-claims t) (search-at t) search′.Post search-Inv-loop search-μ-loop
 search-loop-holds t c =
     let a = c .before .before .before .args in
     let table = records (a .owners .now) (a .heads .now) (a .highs .now) (a .lows .now) in
@@ -73,34 +101,13 @@ search-loop-holds t c =
     let f = c .before .before .before .pre .1 .0 in
     going-start table (a .limit) (a .x) (a .bound) (addressOf (a .high) (a .low)) (a .ttl) start (f .linked) _ (f .places) (omega (arith, f .nodes, f .numbered .owned .few, c .before .before .before .pre .1 .1 .0)) (f .room) (c .before .before .before .pre .1 .1 .1)
 
-search-same-length : (t : ℕ) → search-lts.Need-same-length (
-  length-reads.Asked,
-  length-reads.Learnt,
-  step-below t,
-  step.Post,
-  wide-reads.Asked,
-  wide-reads.Learnt,
-) (search-at t) search′.Post search-Inv-loop search-μ-loop
+search-same-length : (t : ℕ) → search-lts.Need-same-length (search-claims t) (search-at t) search′.Post search-Inv-loop search-μ-loop
 search-same-length t c = c .before .before .loop .inv .out
 
-search-same-length-2 : (t : ℕ) → search-lts.Need-same-length-2 (
-  length-reads.Asked,
-  length-reads.Learnt,
-  step-below t,
-  step.Post,
-  wide-reads.Asked,
-  wide-reads.Learnt,
-) (search-at t) search′.Post search-Inv-loop search-μ-loop
+search-same-length-2 : (t : ℕ) → search-lts.Need-same-length-2 (search-claims t) (search-at t) search′.Post search-Inv-loop search-μ-loop
 search-same-length-2 t c = c .before .before .loop .inv .lives
 
-search-returns : (t : ℕ) → search-lts.Need-returns (
-  length-reads.Asked,
-  length-reads.Learnt,
-  step-below t,
-  step.Post,
-  wide-reads.Asked,
-  wide-reads.Learnt,
-) (search-at t) search′.Post search-Inv-loop search-μ-loop
+search-returns : (t : ℕ) → search-lts.Need-returns (search-claims t) (search-at t) search′.Post search-Inv-loop search-μ-loop
 search-returns t c =
     let a = c .before .before .before .before .before .before .args in
     let table = records (a .owners .now) (a .heads .now) (a .highs .now) (a .lows .now) in
@@ -110,44 +117,16 @@ search-returns t c =
     let here = memory (l .next) (l .prev) (l .out) (l .lives) (l .figures) (l .s) in
     going-over table (a .limit) (a .x) (a .bound) (addressOf (a .high) (a .low)) (a .ttl) start (f .linked) here (l .i) (l .inv) (c .before .loop-test .taken) (c .if1 .taken)
 
-search-mul-length-in : (t : ℕ) → search-lts.Need-mul-length-in (
-  length-reads.Asked,
-  length-reads.Learnt,
-  step-below t,
-  step.Post,
-  wide-reads.Asked,
-  wide-reads.Learnt,
-) (search-at t) search′.Post search-Inv-loop search-μ-loop
+search-mul-length-in : (t : ℕ) → search-lts.Need-mul-length-in (search-claims t) (search-at t) search′.Post search-Inv-loop search-μ-loop
 search-mul-length-in t c = omega (arith, c .before .before .before .before .before .before .pre .1 .0 .numbered .owned .few, c .before .loop-test .taken)
 
-search-element-copy-out-length-in : (t : ℕ) → search-lts.Need-element-copy-out-length-in (
-  length-reads.Asked,
-  length-reads.Learnt,
-  step-below t,
-  step.Post,
-  wide-reads.Asked,
-  wide-reads.Learnt,
-) (search-at t) search′.Post search-Inv-loop search-μ-loop
+search-element-copy-out-length-in : (t : ℕ) → search-lts.Need-element-copy-out-length-in (search-claims t) (search-at t) search′.Post search-Inv-loop search-μ-loop
 search-element-copy-out-length-in t c = omega (arith, c .before .before .before .before .before .before .pre .1 .0 .numbered .owned .few, c .before .loop-test .taken)
 
-search-length-in-requires : (t : ℕ) → search-lts.Need-length-in-requires (
-  length-reads.Asked,
-  length-reads.Learnt,
-  step-below t,
-  step.Post,
-  wide-reads.Asked,
-  wide-reads.Learnt,
-) (search-at t) search′.Post search-Inv-loop search-μ-loop
+search-length-in-requires : (t : ℕ) → search-lts.Need-length-in-requires (search-claims t) (search-at t) search′.Post search-Inv-loop search-μ-loop
 search-length-in-requires t c κs = search needs
 
-search-step-requires : (t : ℕ) → search-lts.Need-step-requires (
-  length-reads.Asked,
-  length-reads.Learnt,
-  step-below t,
-  step.Post,
-  wide-reads.Asked,
-  wide-reads.Learnt,
-) (search-at t) search′.Post search-Inv-loop search-μ-loop
+search-step-requires : (t : ℕ) → search-lts.Need-step-requires (search-claims t) (search-at t) search′.Post search-Inv-loop search-μ-loop
 search-step-requires t c κs =
     let a = c .before .before .before .before .before .before .before .before .before .before .before .before .before .before .args in
     let table = records (a .owners .now) (a .heads .now) (a .highs .now) (a .lows .now) in
@@ -169,44 +148,16 @@ search-step-requires t c κs =
       ),
     )
 
-search-mul-wide : (t : ℕ) → search-lts.Need-mul-wide (
-  length-reads.Asked,
-  length-reads.Learnt,
-  step-below t,
-  step.Post,
-  wide-reads.Asked,
-  wide-reads.Learnt,
-) (search-at t) search′.Post search-Inv-loop search-μ-loop
+search-mul-wide : (t : ℕ) → search-lts.Need-mul-wide (search-claims t) (search-at t) search′.Post search-Inv-loop search-μ-loop
 search-mul-wide t c = omega (arith, c .before .before .before .before .before .before .before .before .before .pre .1 .0 .numbered .owned .few, c .before .before .before .before .loop-test .taken)
 
-search-element-copy-out-wide : (t : ℕ) → search-lts.Need-element-copy-out-wide (
-  length-reads.Asked,
-  length-reads.Learnt,
-  step-below t,
-  step.Post,
-  wide-reads.Asked,
-  wide-reads.Learnt,
-) (search-at t) search′.Post search-Inv-loop search-μ-loop
+search-element-copy-out-wide : (t : ℕ) → search-lts.Need-element-copy-out-wide (search-claims t) (search-at t) search′.Post search-Inv-loop search-μ-loop
 search-element-copy-out-wide t c = omega (arith, c .before .before .before .before .before .before .before .before .before .pre .1 .0 .numbered .owned .few, c .before .before .before .before .loop-test .taken)
 
-search-wide-requires : (t : ℕ) → search-lts.Need-wide-requires (
-  length-reads.Asked,
-  length-reads.Learnt,
-  step-below t,
-  step.Post,
-  wide-reads.Asked,
-  wide-reads.Learnt,
-) (search-at t) search′.Post search-Inv-loop search-μ-loop
+search-wide-requires : (t : ℕ) → search-lts.Need-wide-requires (search-claims t) (search-at t) search′.Post search-Inv-loop search-μ-loop
 search-wide-requires t c κs = search needs
 
-search-loop-less : (t : ℕ) → search-lts.Need-loop-less (
-  length-reads.Asked,
-  length-reads.Learnt,
-  step-below t,
-  step.Post,
-  wide-reads.Asked,
-  wide-reads.Learnt,
-) (search-at t) search′.Post search-Inv-loop search-μ-loop
+search-loop-less : (t : ℕ) → search-lts.Need-loop-less (search-claims t) (search-at t) search′.Post search-Inv-loop search-μ-loop
 search-loop-less t c =
     let a = c .before .before .before .before .before .before .before .before .before .before .before .args in
     let table = records (a .owners .now) (a .heads .now) (a .highs .now) (a .lows .now) in
@@ -220,14 +171,7 @@ search-loop-less t c =
     let r : c .wide .result ≡ getD (l .next) (l .i) 0 = c .wide .ensures ∙ ap (λ (v : List ℕ). getD v (l .i) 0) e in
     omega (arith, m, r, li)
 
-search-loop-again : (t : ℕ) → search-lts.Need-loop-again (
-  length-reads.Asked,
-  length-reads.Learnt,
-  step-below t,
-  step.Post,
-  wide-reads.Asked,
-  wide-reads.Learnt,
-) (search-at t) search′.Post search-Inv-loop search-μ-loop
+search-loop-again : (t : ℕ) → search-lts.Need-loop-again (search-claims t) (search-at t) search′.Post search-Inv-loop search-μ-loop
 search-loop-again t c =
     let a = c .before .before .before .before .before .before .before .before .before .before .before .args in
     let table = records (a .owners .now) (a .heads .now) (a .highs .now) (a .lows .now) in
@@ -251,34 +195,13 @@ search-loop-again t c =
     (c .wide .ensures ∙ ap (λ (v : List ℕ). getD v (l .i) 0) (w .1))))
     (j .came)
 
-search-same-length-3 : (t : ℕ) → search-lts.Need-same-length-3 (
-  length-reads.Asked,
-  length-reads.Learnt,
-  step-below t,
-  step.Post,
-  wide-reads.Asked,
-  wide-reads.Learnt,
-) (search-at t) search′.Post search-Inv-loop search-μ-loop
+search-same-length-3 : (t : ℕ) → search-lts.Need-same-length-3 (search-claims t) (search-at t) search′.Post search-Inv-loop search-μ-loop
 search-same-length-3 t c = c .before .loop .inv .out
 
-search-same-length-4 : (t : ℕ) → search-lts.Need-same-length-4 (
-  length-reads.Asked,
-  length-reads.Learnt,
-  step-below t,
-  step.Post,
-  wide-reads.Asked,
-  wide-reads.Learnt,
-) (search-at t) search′.Post search-Inv-loop search-μ-loop
+search-same-length-4 : (t : ℕ) → search-lts.Need-same-length-4 (search-claims t) (search-at t) search′.Post search-Inv-loop search-μ-loop
 search-same-length-4 t c = c .before .loop .inv .lives
 
-search-returns-2 : (t : ℕ) → search-lts.Need-returns-2 (
-  length-reads.Asked,
-  length-reads.Learnt,
-  step-below t,
-  step.Post,
-  wide-reads.Asked,
-  wide-reads.Learnt,
-) (search-at t) search′.Post search-Inv-loop search-μ-loop
+search-returns-2 : (t : ℕ) → search-lts.Need-returns-2 (search-claims t) (search-at t) search′.Post search-Inv-loop search-μ-loop
 search-returns-2 t c =
     let a = c .before .before .before .before .before .args in
     let table = records (a .owners .now) (a .heads .now) (a .highs .now) (a .lows .now) in
@@ -288,273 +211,42 @@ search-returns-2 t c =
     let here = memory (l .next) (l .prev) (l .out) (l .lives) (l .figures) (l .s) in
     going-end table (a .limit) (a .x) (a .bound) (addressOf (a .high) (a .low)) (a .ttl) start (f .linked) here (l .i) (l .inv) (c .loop-test .left)
 
-step-mul-record : (t : ℕ) → step-lts.Need-mul-record (
-  length-reads.Asked,
-  length-reads.Learnt,
-  joined-reads.Asked,
-  joined-reads.Learnt,
-  ttl-reads.Asked,
-  ttl-reads.Learnt,
-  lesser-reads.Asked,
-  lesser-reads.Learnt,
-  keep-reads.Asked,
-  keep-reads.Learnt,
-  target-reads.Asked,
-  target-reads.Learnt,
-  wide-reads.Asked,
-  wide-reads.Learnt,
-  unlink-reads.Asked,
-  unlink-reads.Learnt,
-  search-below t,
-  search′.Post,
-  relink-reads.Asked,
-  relink-reads.Learnt,
-) (step-at t) step.Post
+step-mul-record : (t : ℕ) → step-lts.Need-mul-record (step-claims t) (step-at t) step.Post
 step-mul-record t c = omega (arith, c .before .before .before .pre .1 .0 .numbered .owned .few, c .before .before .before .pre .1 .1 .0)
 
-step-element-copy-out-record : (t : ℕ) → step-lts.Need-element-copy-out-record (
-  length-reads.Asked,
-  length-reads.Learnt,
-  joined-reads.Asked,
-  joined-reads.Learnt,
-  ttl-reads.Asked,
-  ttl-reads.Learnt,
-  lesser-reads.Asked,
-  lesser-reads.Learnt,
-  keep-reads.Asked,
-  keep-reads.Learnt,
-  target-reads.Asked,
-  target-reads.Learnt,
-  wide-reads.Asked,
-  wide-reads.Learnt,
-  unlink-reads.Asked,
-  unlink-reads.Learnt,
-  search-below t,
-  search′.Post,
-  relink-reads.Asked,
-  relink-reads.Learnt,
-) (step-at t) step.Post
+step-element-copy-out-record : (t : ℕ) → step-lts.Need-element-copy-out-record (step-claims t) (step-at t) step.Post
 step-element-copy-out-record t c = omega (arith, c .before .before .before .pre .1 .0 .numbered .owned .few, c .before .before .before .pre .1 .1 .0)
 
-step-length-in-requires : (t : ℕ) → step-lts.Need-length-in-requires (
-  length-reads.Asked,
-  length-reads.Learnt,
-  joined-reads.Asked,
-  joined-reads.Learnt,
-  ttl-reads.Asked,
-  ttl-reads.Learnt,
-  lesser-reads.Asked,
-  lesser-reads.Learnt,
-  keep-reads.Asked,
-  keep-reads.Learnt,
-  target-reads.Asked,
-  target-reads.Learnt,
-  wide-reads.Asked,
-  wide-reads.Learnt,
-  unlink-reads.Asked,
-  unlink-reads.Learnt,
-  search-below t,
-  search′.Post,
-  relink-reads.Asked,
-  relink-reads.Learnt,
-) (step-at t) step.Post
+step-length-in-requires : (t : ℕ) → step-lts.Need-length-in-requires (step-claims t) (step-at t) step.Post
 step-length-in-requires t c κs = search needs
 
-step-joined-requires : (t : ℕ) → step-lts.Need-joined-requires (
-  length-reads.Asked,
-  length-reads.Learnt,
-  joined-reads.Asked,
-  joined-reads.Learnt,
-  ttl-reads.Asked,
-  ttl-reads.Learnt,
-  lesser-reads.Asked,
-  lesser-reads.Learnt,
-  keep-reads.Asked,
-  keep-reads.Learnt,
-  target-reads.Asked,
-  target-reads.Learnt,
-  wide-reads.Asked,
-  wide-reads.Learnt,
-  unlink-reads.Asked,
-  unlink-reads.Learnt,
-  search-below t,
-  search′.Post,
-  relink-reads.Asked,
-  relink-reads.Learnt,
-) (step-at t) step.Post
+step-joined-requires : (t : ℕ) → step-lts.Need-joined-requires (step-claims t) (step-at t) step.Post
 step-joined-requires t c κs =
     let a = c .before .before .before .before .before .args in
     let p = c .before .before .before .before .before .pre .1 in
     (omega (arith, p .0 .numbered .owned .few, p .1 .0), (p .0 .some, p .0 .bounded))
 
-step-ttl-in-requires : (t : ℕ) → step-lts.Need-ttl-in-requires (
-  length-reads.Asked,
-  length-reads.Learnt,
-  joined-reads.Asked,
-  joined-reads.Learnt,
-  ttl-reads.Asked,
-  ttl-reads.Learnt,
-  lesser-reads.Asked,
-  lesser-reads.Learnt,
-  keep-reads.Asked,
-  keep-reads.Learnt,
-  target-reads.Asked,
-  target-reads.Learnt,
-  wide-reads.Asked,
-  wide-reads.Learnt,
-  unlink-reads.Asked,
-  unlink-reads.Learnt,
-  search-below t,
-  search′.Post,
-  relink-reads.Asked,
-  relink-reads.Learnt,
-) (step-at t) step.Post
+step-ttl-in-requires : (t : ℕ) → step-lts.Need-ttl-in-requires (step-claims t) (step-at t) step.Post
 step-ttl-in-requires t c κs = search needs
 
-step-lesser-requires : (t : ℕ) → step-lts.Need-lesser-requires (
-  length-reads.Asked,
-  length-reads.Learnt,
-  joined-reads.Asked,
-  joined-reads.Learnt,
-  ttl-reads.Asked,
-  ttl-reads.Learnt,
-  lesser-reads.Asked,
-  lesser-reads.Learnt,
-  keep-reads.Asked,
-  keep-reads.Learnt,
-  target-reads.Asked,
-  target-reads.Learnt,
-  wide-reads.Asked,
-  wide-reads.Learnt,
-  unlink-reads.Asked,
-  unlink-reads.Learnt,
-  search-below t,
-  search′.Post,
-  relink-reads.Asked,
-  relink-reads.Learnt,
-) (step-at t) step.Post
+step-lesser-requires : (t : ℕ) → step-lts.Need-lesser-requires (step-claims t) (step-at t) step.Post
 step-lesser-requires t c κs = search needs
 
-step-add-w : (t : ℕ) → step-lts.Need-add-w (
-  length-reads.Asked,
-  length-reads.Learnt,
-  joined-reads.Asked,
-  joined-reads.Learnt,
-  ttl-reads.Asked,
-  ttl-reads.Learnt,
-  lesser-reads.Asked,
-  lesser-reads.Learnt,
-  keep-reads.Asked,
-  keep-reads.Learnt,
-  target-reads.Asked,
-  target-reads.Learnt,
-  wide-reads.Asked,
-  wide-reads.Learnt,
-  unlink-reads.Asked,
-  unlink-reads.Learnt,
-  search-below t,
-  search′.Post,
-  relink-reads.Asked,
-  relink-reads.Learnt,
-) (step-at t) step.Post
+step-add-w : (t : ℕ) → step-lts.Need-add-w (step-claims t) (step-at t) step.Post
 step-add-w t c = omega (arith, c .before .before .before .before .before .before .before .before .pre .1 .0 .limited, c .before .before .before .before .before .before .before .before .pre .1 .1 .3)
 
-step-keep-requires : (t : ℕ) → step-lts.Need-keep-requires (
-  length-reads.Asked,
-  length-reads.Learnt,
-  joined-reads.Asked,
-  joined-reads.Learnt,
-  ttl-reads.Asked,
-  ttl-reads.Learnt,
-  lesser-reads.Asked,
-  lesser-reads.Learnt,
-  keep-reads.Asked,
-  keep-reads.Learnt,
-  target-reads.Asked,
-  target-reads.Learnt,
-  wide-reads.Asked,
-  wide-reads.Learnt,
-  unlink-reads.Asked,
-  unlink-reads.Learnt,
-  search-below t,
-  search′.Post,
-  relink-reads.Asked,
-  relink-reads.Learnt,
-) (step-at t) step.Post
+step-keep-requires : (t : ℕ) → step-lts.Need-keep-requires (step-claims t) (step-at t) step.Post
 step-keep-requires t c κs =
     let f = c .before .before .before .before .before .before .before .before .before .before .before .before .pre .1 .0 in
     (f .places, f .room, f .level, f .ordered)
 
-step-same-length : (t : ℕ) → step-lts.Need-same-length (
-  length-reads.Asked,
-  length-reads.Learnt,
-  joined-reads.Asked,
-  joined-reads.Learnt,
-  ttl-reads.Asked,
-  ttl-reads.Learnt,
-  lesser-reads.Asked,
-  lesser-reads.Learnt,
-  keep-reads.Asked,
-  keep-reads.Learnt,
-  target-reads.Asked,
-  target-reads.Learnt,
-  wide-reads.Asked,
-  wide-reads.Learnt,
-  unlink-reads.Asked,
-  unlink-reads.Learnt,
-  search-below t,
-  search′.Post,
-  relink-reads.Asked,
-  relink-reads.Learnt,
-) (step-at t) step.Post
+step-same-length : (t : ℕ) → step-lts.Need-same-length (step-claims t) (step-at t) step.Post
 step-same-length t c = search needs
 
-step-same-length-2 : (t : ℕ) → step-lts.Need-same-length-2 (
-  length-reads.Asked,
-  length-reads.Learnt,
-  joined-reads.Asked,
-  joined-reads.Learnt,
-  ttl-reads.Asked,
-  ttl-reads.Learnt,
-  lesser-reads.Asked,
-  lesser-reads.Learnt,
-  keep-reads.Asked,
-  keep-reads.Learnt,
-  target-reads.Asked,
-  target-reads.Learnt,
-  wide-reads.Asked,
-  wide-reads.Learnt,
-  unlink-reads.Asked,
-  unlink-reads.Learnt,
-  search-below t,
-  search′.Post,
-  relink-reads.Asked,
-  relink-reads.Learnt,
-) (step-at t) step.Post
+step-same-length-2 : (t : ℕ) → step-lts.Need-same-length-2 (step-claims t) (step-at t) step.Post
 step-same-length-2 t c = search needs
 
-step-returns : (t : ℕ) → step-lts.Need-returns (
-  length-reads.Asked,
-  length-reads.Learnt,
-  joined-reads.Asked,
-  joined-reads.Learnt,
-  ttl-reads.Asked,
-  ttl-reads.Learnt,
-  lesser-reads.Asked,
-  lesser-reads.Learnt,
-  keep-reads.Asked,
-  keep-reads.Learnt,
-  target-reads.Asked,
-  target-reads.Learnt,
-  wide-reads.Asked,
-  wide-reads.Learnt,
-  unlink-reads.Asked,
-  unlink-reads.Learnt,
-  search-below t,
-  search′.Post,
-  relink-reads.Asked,
-  relink-reads.Learnt,
-) (step-at t) step.Post
+step-returns : (t : ℕ) → step-lts.Need-returns (step-claims t) (step-at t) step.Post
 step-returns t c =
     let a = c .before .before .before .before .before .before .before .before .before .before .before .before .before .before .before .before .before .args in
     let table = records (a .owners .now) (a .heads .now) (a .highs .now) (a .lows .now) in
@@ -563,196 +255,28 @@ step-returns t c =
     let k = c .before .before .before .before .keep .ensures in
     done-finished table start (a .bound) (a .limit) (a .i) (p .0) (p .1 .0) (p .1 .1) (addressOf (a .high) (a .low)) _ _ _ _ (a .ttl) _ (p .1 .3) (sym (c .before .before .before .before .before .before .before .before .before .before .before .before .length-in .ensures) ∙ c .before .before .before .before .before .before .before .before .if1 .taken) (c .before .before .before .before .before .before .before .before .before .before .before .joined .ensures) (c .before .before .before .before .before .before .before .before .before .lesser .ensures ∙ ap (min (a .ttl)) (c .before .before .before .before .before .before .before .before .before .before .ttl-in .ensures)) (k .0) (k .1) (k .2)
 
-step-target-in-requires : (t : ℕ) → step-lts.Need-target-in-requires (
-  length-reads.Asked,
-  length-reads.Learnt,
-  joined-reads.Asked,
-  joined-reads.Learnt,
-  ttl-reads.Asked,
-  ttl-reads.Learnt,
-  lesser-reads.Asked,
-  lesser-reads.Learnt,
-  keep-reads.Asked,
-  keep-reads.Learnt,
-  target-reads.Asked,
-  target-reads.Learnt,
-  wide-reads.Asked,
-  wide-reads.Learnt,
-  unlink-reads.Asked,
-  unlink-reads.Learnt,
-  search-below t,
-  search′.Post,
-  relink-reads.Asked,
-  relink-reads.Learnt,
-) (step-at t) step.Post
+step-target-in-requires : (t : ℕ) → step-lts.Need-target-in-requires (step-claims t) (step-at t) step.Post
 step-target-in-requires t c κs = search needs
 
-step-mul-wide : (t : ℕ) → step-lts.Need-mul-wide (
-  length-reads.Asked,
-  length-reads.Learnt,
-  joined-reads.Asked,
-  joined-reads.Learnt,
-  ttl-reads.Asked,
-  ttl-reads.Learnt,
-  lesser-reads.Asked,
-  lesser-reads.Learnt,
-  keep-reads.Asked,
-  keep-reads.Learnt,
-  target-reads.Asked,
-  target-reads.Learnt,
-  wide-reads.Asked,
-  wide-reads.Learnt,
-  unlink-reads.Asked,
-  unlink-reads.Learnt,
-  search-below t,
-  search′.Post,
-  relink-reads.Asked,
-  relink-reads.Learnt,
-) (step-at t) step.Post
+step-mul-wide : (t : ℕ) → step-lts.Need-mul-wide (step-claims t) (step-at t) step.Post
 step-mul-wide t c = omega (arith, c .before .before .before .before .before .before .before .before .before .before .pre .1 .0 .numbered .owned .few, c .before .before .before .before .before .before .before .before .before .before .pre .1 .1 .0)
 
-step-element-copy-out-wide : (t : ℕ) → step-lts.Need-element-copy-out-wide (
-  length-reads.Asked,
-  length-reads.Learnt,
-  joined-reads.Asked,
-  joined-reads.Learnt,
-  ttl-reads.Asked,
-  ttl-reads.Learnt,
-  lesser-reads.Asked,
-  lesser-reads.Learnt,
-  keep-reads.Asked,
-  keep-reads.Learnt,
-  target-reads.Asked,
-  target-reads.Learnt,
-  wide-reads.Asked,
-  wide-reads.Learnt,
-  unlink-reads.Asked,
-  unlink-reads.Learnt,
-  search-below t,
-  search′.Post,
-  relink-reads.Asked,
-  relink-reads.Learnt,
-) (step-at t) step.Post
+step-element-copy-out-wide : (t : ℕ) → step-lts.Need-element-copy-out-wide (step-claims t) (step-at t) step.Post
 step-element-copy-out-wide t c = omega (arith, c .before .before .before .before .before .before .before .before .before .before .pre .1 .0 .numbered .owned .few, c .before .before .before .before .before .before .before .before .before .before .pre .1 .1 .0)
 
-step-wide-requires : (t : ℕ) → step-lts.Need-wide-requires (
-  length-reads.Asked,
-  length-reads.Learnt,
-  joined-reads.Asked,
-  joined-reads.Learnt,
-  ttl-reads.Asked,
-  ttl-reads.Learnt,
-  lesser-reads.Asked,
-  lesser-reads.Learnt,
-  keep-reads.Asked,
-  keep-reads.Learnt,
-  target-reads.Asked,
-  target-reads.Learnt,
-  wide-reads.Asked,
-  wide-reads.Learnt,
-  unlink-reads.Asked,
-  unlink-reads.Learnt,
-  search-below t,
-  search′.Post,
-  relink-reads.Asked,
-  relink-reads.Learnt,
-) (step-at t) step.Post
+step-wide-requires : (t : ℕ) → step-lts.Need-wide-requires (step-claims t) (step-at t) step.Post
 step-wide-requires t c κs = search needs
 
-step-mul-wide-2 : (t : ℕ) → step-lts.Need-mul-wide-2 (
-  length-reads.Asked,
-  length-reads.Learnt,
-  joined-reads.Asked,
-  joined-reads.Learnt,
-  ttl-reads.Asked,
-  ttl-reads.Learnt,
-  lesser-reads.Asked,
-  lesser-reads.Learnt,
-  keep-reads.Asked,
-  keep-reads.Learnt,
-  target-reads.Asked,
-  target-reads.Learnt,
-  wide-reads.Asked,
-  wide-reads.Learnt,
-  unlink-reads.Asked,
-  unlink-reads.Learnt,
-  search-below t,
-  search′.Post,
-  relink-reads.Asked,
-  relink-reads.Learnt,
-) (step-at t) step.Post
+step-mul-wide-2 : (t : ℕ) → step-lts.Need-mul-wide-2 (step-claims t) (step-at t) step.Post
 step-mul-wide-2 t c = omega (arith, c .before .before .before .before .before .before .before .before .before .before .before .before .pre .1 .0 .numbered .owned .few, c .before .before .before .before .before .before .before .before .before .before .before .before .pre .1 .1 .0)
 
-step-element-copy-out-wide-2 : (t : ℕ) → step-lts.Need-element-copy-out-wide-2 (
-  length-reads.Asked,
-  length-reads.Learnt,
-  joined-reads.Asked,
-  joined-reads.Learnt,
-  ttl-reads.Asked,
-  ttl-reads.Learnt,
-  lesser-reads.Asked,
-  lesser-reads.Learnt,
-  keep-reads.Asked,
-  keep-reads.Learnt,
-  target-reads.Asked,
-  target-reads.Learnt,
-  wide-reads.Asked,
-  wide-reads.Learnt,
-  unlink-reads.Asked,
-  unlink-reads.Learnt,
-  search-below t,
-  search′.Post,
-  relink-reads.Asked,
-  relink-reads.Learnt,
-) (step-at t) step.Post
+step-element-copy-out-wide-2 : (t : ℕ) → step-lts.Need-element-copy-out-wide-2 (step-claims t) (step-at t) step.Post
 step-element-copy-out-wide-2 t c = omega (arith, c .before .before .before .before .before .before .before .before .before .before .before .before .pre .1 .0 .numbered .owned .few, c .before .before .before .before .before .before .before .before .before .before .before .before .pre .1 .1 .0)
 
-step-wide-requires-2 : (t : ℕ) → step-lts.Need-wide-requires-2 (
-  length-reads.Asked,
-  length-reads.Learnt,
-  joined-reads.Asked,
-  joined-reads.Learnt,
-  ttl-reads.Asked,
-  ttl-reads.Learnt,
-  lesser-reads.Asked,
-  lesser-reads.Learnt,
-  keep-reads.Asked,
-  keep-reads.Learnt,
-  target-reads.Asked,
-  target-reads.Learnt,
-  wide-reads.Asked,
-  wide-reads.Learnt,
-  unlink-reads.Asked,
-  unlink-reads.Learnt,
-  search-below t,
-  search′.Post,
-  relink-reads.Asked,
-  relink-reads.Learnt,
-) (step-at t) step.Post
+step-wide-requires-2 : (t : ℕ) → step-lts.Need-wide-requires-2 (step-claims t) (step-at t) step.Post
 step-wide-requires-2 t c κs = search needs
 
-step-unlink-requires : (t : ℕ) → step-lts.Need-unlink-requires (
-  length-reads.Asked,
-  length-reads.Learnt,
-  joined-reads.Asked,
-  joined-reads.Learnt,
-  ttl-reads.Asked,
-  ttl-reads.Learnt,
-  lesser-reads.Asked,
-  lesser-reads.Learnt,
-  keep-reads.Asked,
-  keep-reads.Learnt,
-  target-reads.Asked,
-  target-reads.Learnt,
-  wide-reads.Asked,
-  wide-reads.Learnt,
-  unlink-reads.Asked,
-  unlink-reads.Learnt,
-  search-below t,
-  search′.Post,
-  relink-reads.Asked,
-  relink-reads.Learnt,
-) (step-at t) step.Post
+step-unlink-requires : (t : ℕ) → step-lts.Need-unlink-requires (step-claims t) (step-at t) step.Post
 step-unlink-requires t c κs =
     let a = c .before .before .before .before .before .before .before .before .before .before .before .before .before .before .before .before .args in
     let table = records (a .owners .now) (a .heads .now) (a .highs .now) (a .lows .now) in
@@ -760,133 +284,28 @@ step-unlink-requires t c κs =
     let p = c .before .before .before .before .before .before .before .before .before .before .before .before .before .before .before .before .pre .1 in
     (p .0 .nodes, p .0 .linked .level ∙ p .0 .nodes, p-node table start (a .bound) (a .limit) (a .i) (p .0) (p .1 .0) (p .1 .1) (c .before .before .before .before .wide .result) (c .before .before .wide2 .result) (c .before .before .before .before .wide .ensures) (c .before .before .wide2 .ensures), q-node table start (a .bound) (a .limit) (a .i) (p .0) (p .1 .0) (p .1 .1) (c .before .before .before .before .wide .result) (c .before .before .wide2 .result) (c .before .before .before .before .wide .ensures) (c .before .before .wide2 .ensures))
 
-step-add-head : (t : ℕ) → step-lts.Need-add-head (
-  length-reads.Asked,
-  length-reads.Learnt,
-  joined-reads.Asked,
-  joined-reads.Learnt,
-  ttl-reads.Asked,
-  ttl-reads.Learnt,
-  lesser-reads.Asked,
-  lesser-reads.Learnt,
-  keep-reads.Asked,
-  keep-reads.Learnt,
-  target-reads.Asked,
-  target-reads.Learnt,
-  wide-reads.Asked,
-  wide-reads.Learnt,
-  unlink-reads.Asked,
-  unlink-reads.Learnt,
-  search-below t,
-  search′.Post,
-  relink-reads.Asked,
-  relink-reads.Learnt,
-) (step-at t) step.Post
+step-add-head : (t : ℕ) → step-lts.Need-add-head (step-claims t) (step-at t) step.Post
 step-add-head t c =
     let a = c .before .before .before .before .before .before .before .before .before .before .before .before .before .before .before .before .before .args in
     let p = c .before .before .before .before .before .before .before .before .before .before .before .before .before .before .before .before .before .pre .1 in
     omega (arith, c .before .before .before .before .before .before .before .target-in .ensures, p .0 .numbered .owned .few, p .0 .numbered .target (a .i) (p .1 .0) (omega (arith, c .before .before .before .before .before .before .before .before .if1 .left)))
 
-step-mul-wide-3 : (t : ℕ) → step-lts.Need-mul-wide-3 (
-  length-reads.Asked,
-  length-reads.Learnt,
-  joined-reads.Asked,
-  joined-reads.Learnt,
-  ttl-reads.Asked,
-  ttl-reads.Learnt,
-  lesser-reads.Asked,
-  lesser-reads.Learnt,
-  keep-reads.Asked,
-  keep-reads.Learnt,
-  target-reads.Asked,
-  target-reads.Learnt,
-  wide-reads.Asked,
-  wide-reads.Learnt,
-  unlink-reads.Asked,
-  unlink-reads.Learnt,
-  search-below t,
-  search′.Post,
-  relink-reads.Asked,
-  relink-reads.Learnt,
-) (step-at t) step.Post
+step-mul-wide-3 : (t : ℕ) → step-lts.Need-mul-wide-3 (step-claims t) (step-at t) step.Post
 step-mul-wide-3 t c =
     let a = c .before .before .before .before .before .before .before .before .before .before .before .before .before .before .before .before .before .args in
     let p = c .before .before .before .before .before .before .before .before .before .before .before .before .before .before .before .before .before .pre .1 in
     omega (arith, c .before .before .before .before .before .before .before .target-in .ensures, p .0 .numbered .owned .few, p .0 .numbered .target (a .i) (p .1 .0) (omega (arith, c .before .before .before .before .before .before .before .before .if1 .left)))
 
-step-element-copy-out-wide-3 : (t : ℕ) → step-lts.Need-element-copy-out-wide-3 (
-  length-reads.Asked,
-  length-reads.Learnt,
-  joined-reads.Asked,
-  joined-reads.Learnt,
-  ttl-reads.Asked,
-  ttl-reads.Learnt,
-  lesser-reads.Asked,
-  lesser-reads.Learnt,
-  keep-reads.Asked,
-  keep-reads.Learnt,
-  target-reads.Asked,
-  target-reads.Learnt,
-  wide-reads.Asked,
-  wide-reads.Learnt,
-  unlink-reads.Asked,
-  unlink-reads.Learnt,
-  search-below t,
-  search′.Post,
-  relink-reads.Asked,
-  relink-reads.Learnt,
-) (step-at t) step.Post
+step-element-copy-out-wide-3 : (t : ℕ) → step-lts.Need-element-copy-out-wide-3 (step-claims t) (step-at t) step.Post
 step-element-copy-out-wide-3 t c =
     let a = c .before .before .before .before .before .before .before .before .before .before .before .before .before .before .before .before .before .args in
     let p = c .before .before .before .before .before .before .before .before .before .before .before .before .before .before .before .before .before .pre .1 in
     omega (arith, c .before .before .before .before .before .before .before .target-in .ensures, p .0 .numbered .owned .few, p .0 .numbered .target (a .i) (p .1 .0) (omega (arith, c .before .before .before .before .before .before .before .before .if1 .left)))
 
-step-wide-requires-3 : (t : ℕ) → step-lts.Need-wide-requires-3 (
-  length-reads.Asked,
-  length-reads.Learnt,
-  joined-reads.Asked,
-  joined-reads.Learnt,
-  ttl-reads.Asked,
-  ttl-reads.Learnt,
-  lesser-reads.Asked,
-  lesser-reads.Learnt,
-  keep-reads.Asked,
-  keep-reads.Learnt,
-  target-reads.Asked,
-  target-reads.Learnt,
-  wide-reads.Asked,
-  wide-reads.Learnt,
-  unlink-reads.Asked,
-  unlink-reads.Learnt,
-  search-below t,
-  search′.Post,
-  relink-reads.Asked,
-  relink-reads.Learnt,
-) (step-at t) step.Post
+step-wide-requires-3 : (t : ℕ) → step-lts.Need-wide-requires-3 (step-claims t) (step-at t) step.Post
 step-wide-requires-3 t c κs = search needs
 
-step-search-requires : (t : ℕ) → step-lts.Need-search-requires (
-  length-reads.Asked,
-  length-reads.Learnt,
-  joined-reads.Asked,
-  joined-reads.Learnt,
-  ttl-reads.Asked,
-  ttl-reads.Learnt,
-  lesser-reads.Asked,
-  lesser-reads.Learnt,
-  keep-reads.Asked,
-  keep-reads.Learnt,
-  target-reads.Asked,
-  target-reads.Learnt,
-  wide-reads.Asked,
-  wide-reads.Learnt,
-  unlink-reads.Asked,
-  unlink-reads.Learnt,
-  search-below t,
-  search′.Post,
-  relink-reads.Asked,
-  relink-reads.Learnt,
-) (step-at t) step.Post
+step-search-requires : (t : ℕ) → step-lts.Need-search-requires (step-claims t) (step-at t) step.Post
 step-search-requires t c κs =
     let a = c .before .before .before .before .before .before .before .before .before .before .before .before .before .before .before .before .before .before .before .before .before .before .before .before .before .args in
     let table = records (a .owners .now) (a .heads .now) (a .highs .now) (a .lows .now) in
@@ -901,28 +320,7 @@ step-search-requires t c κs =
     )
 
 -- the search from the record, or nothing where its target has no unused record: the links are as it found them
-step-left : (t : ℕ) (c : step-lts.Joined2 (
-  length-reads.Asked,
-  length-reads.Learnt,
-  joined-reads.Asked,
-  joined-reads.Learnt,
-  ttl-reads.Asked,
-  ttl-reads.Learnt,
-  lesser-reads.Asked,
-  lesser-reads.Learnt,
-  keep-reads.Asked,
-  keep-reads.Learnt,
-  target-reads.Asked,
-  target-reads.Learnt,
-  wide-reads.Asked,
-  wide-reads.Learnt,
-  unlink-reads.Asked,
-  unlink-reads.Learnt,
-  search-below t,
-  search′.Post,
-  relink-reads.Asked,
-  relink-reads.Learnt,
-) (step-at t) step.Post) → (
+step-left : (t : ℕ) (c : step-lts.Joined2 (step-claims t) (step-at t) step.Post) → (
     let a = c .before .before .before .before .before .before .before .before .before .before .before .before .before .before .before .before .before .before .before .before .args in
     let table = records (a .owners .now) (a .heads .now) (a .highs .now) (a .lows .now) in
     let start = memory (a .next .now) (a .prev .now) (a .out .now) (a .lives .now) (a .figures .now) (a .work) in
@@ -947,28 +345,7 @@ step-left t c =
     (nothing table start (a .bound) (a .limit) (a .i) (p .0) (p .1 .0) (p .1 .1) (c .before .before .before .before .before .before .before .before .wide .result) (c .before .before .before .before .before .before .wide2 .result) (c .before .before .before .before .before .before .before .before .wide .ensures) (c .before .before .before .before .before .before .wide2 .ensures) (c .before .before .before .unlink .last .1 .1 .0) (c .before .before .before .unlink .last .1 .1 .1 .0) (c .before .before .before .unlink .ensures .0) (c .before .before .before .unlink .ensures .1) (c .before .before .before .before .before .before .before .before .before .before .target-in .result) (c .before .before .before .before .before .before .before .before .before .before .before .before .before .before .before .length-in .result) v (c .before .before .before .before .before .before .before .before .before .before .before .before .lesser .result) o (omega (arith, c .before .before .before .before .before .before .before .before .before .before .before .before .before .before .before .length-in .ensures, p .1 .2)) (omega (arith, c .before .before .before .before .before .before .before .before .before .before .target-in .ensures, p .0 .numbered .owned .few, p .0 .numbered .target (a .i) (p .1 .0) (omega (arith, c .before .before .before .before .before .before .before .before .before .before .before .if1 .left)))) (omega (arith, c .before .wide3 .ensures, w .0 .left))))
     (j .came)
 
-step-relink-requires : (t : ℕ) → step-lts.Need-relink-requires (
-  length-reads.Asked,
-  length-reads.Learnt,
-  joined-reads.Asked,
-  joined-reads.Learnt,
-  ttl-reads.Asked,
-  ttl-reads.Learnt,
-  lesser-reads.Asked,
-  lesser-reads.Learnt,
-  keep-reads.Asked,
-  keep-reads.Learnt,
-  target-reads.Asked,
-  target-reads.Learnt,
-  wide-reads.Asked,
-  wide-reads.Learnt,
-  unlink-reads.Asked,
-  unlink-reads.Learnt,
-  search-below t,
-  search′.Post,
-  relink-reads.Asked,
-  relink-reads.Learnt,
-) (step-at t) step.Post
+step-relink-requires : (t : ℕ) → step-lts.Need-relink-requires (step-claims t) (step-at t) step.Post
 step-relink-requires t c κs =
     let a = c .before .before .before .before .before .before .before .before .before .before .before .before .before .before .before .before .before .before .before .before .before .before .args in
     let table = records (a .owners .now) (a .heads .now) (a .highs .now) (a .lows .now) in
@@ -984,76 +361,13 @@ step-relink-requires t c κs =
     let g = still-long table start (a .bound) (a .limit) (a .i) (p .0) (p .1 .0) (p .1 .1) (c .before .before .before .before .before .before .before .before .before .before .wide .result) (c .before .before .before .before .before .before .before .before .wide2 .result) (c .before .before .before .before .before .before .before .before .before .before .wide .ensures) (c .before .before .before .before .before .before .before .before .wide2 .ensures) (c .before .before .before .before .before .unlink .last .1 .1 .0) (c .before .before .before .before .before .unlink .last .1 .1 .1 .0) (c .before .before .before .before .before .unlink .ensures .0) (c .before .before .before .before .before .unlink .ensures .1) m′ S d in
     (g .0, g .1, p-node table start (a .bound) (a .limit) (a .i) (p .0) (p .1 .0) (p .1 .1) (c .before .before .before .before .before .before .before .before .before .before .wide .result) (c .before .before .before .before .before .before .before .before .wide2 .result) (c .before .before .before .before .before .before .before .before .before .before .wide .ensures) (c .before .before .before .before .before .before .before .before .wide2 .ensures), q-node table start (a .bound) (a .limit) (a .i) (p .0) (p .1 .0) (p .1 .1) (c .before .before .before .before .before .before .before .before .before .before .wide .result) (c .before .before .before .before .before .before .before .before .wide2 .result) (c .before .before .before .before .before .before .before .before .before .before .wide .ensures) (c .before .before .before .before .before .before .before .before .wide2 .ensures), omega (arith, p .0 .numbered .owned .few, p .1 .0))
 
-step-same-length-3 : (t : ℕ) → step-lts.Need-same-length-3 (
-  length-reads.Asked,
-  length-reads.Learnt,
-  joined-reads.Asked,
-  joined-reads.Learnt,
-  ttl-reads.Asked,
-  ttl-reads.Learnt,
-  lesser-reads.Asked,
-  lesser-reads.Learnt,
-  keep-reads.Asked,
-  keep-reads.Learnt,
-  target-reads.Asked,
-  target-reads.Learnt,
-  wide-reads.Asked,
-  wide-reads.Learnt,
-  unlink-reads.Asked,
-  unlink-reads.Learnt,
-  search-below t,
-  search′.Post,
-  relink-reads.Asked,
-  relink-reads.Learnt,
-) (step-at t) step.Post
+step-same-length-3 : (t : ℕ) → step-lts.Need-same-length-3 (step-claims t) (step-at t) step.Post
 step-same-length-3 t c = ⊎-elim (λ w. ap length (w .13) ∙ w .6 .kept .1 .1 .1 .1 .1 .1 .1 .1 .1 .1 .1 .1 .1 .0) (λ w. ap length (w .3)) (c .before .before .before .if2 .came)
 
-step-same-length-4 : (t : ℕ) → step-lts.Need-same-length-4 (
-  length-reads.Asked,
-  length-reads.Learnt,
-  joined-reads.Asked,
-  joined-reads.Learnt,
-  ttl-reads.Asked,
-  ttl-reads.Learnt,
-  lesser-reads.Asked,
-  lesser-reads.Learnt,
-  keep-reads.Asked,
-  keep-reads.Learnt,
-  target-reads.Asked,
-  target-reads.Learnt,
-  wide-reads.Asked,
-  wide-reads.Learnt,
-  unlink-reads.Asked,
-  unlink-reads.Learnt,
-  search-below t,
-  search′.Post,
-  relink-reads.Asked,
-  relink-reads.Learnt,
-) (step-at t) step.Post
+step-same-length-4 : (t : ℕ) → step-lts.Need-same-length-4 (step-claims t) (step-at t) step.Post
 step-same-length-4 t c = ⊎-elim (λ w. ap length (w .14) ∙ w .6 .kept .1 .1 .1 .1 .1 .1 .1 .1 .1 .1 .1 .1 .1 .1 .0) (λ w. ap length (w .4)) (c .before .before .before .if2 .came)
 
-step-returns-2 : (t : ℕ) → step-lts.Need-returns-2 (
-  length-reads.Asked,
-  length-reads.Learnt,
-  joined-reads.Asked,
-  joined-reads.Learnt,
-  ttl-reads.Asked,
-  ttl-reads.Learnt,
-  lesser-reads.Asked,
-  lesser-reads.Learnt,
-  keep-reads.Asked,
-  keep-reads.Learnt,
-  target-reads.Asked,
-  target-reads.Learnt,
-  wide-reads.Asked,
-  wide-reads.Learnt,
-  unlink-reads.Asked,
-  unlink-reads.Learnt,
-  search-below t,
-  search′.Post,
-  relink-reads.Asked,
-  relink-reads.Learnt,
-) (step-at t) step.Post
+step-returns-2 : (t : ℕ) → step-lts.Need-returns-2 (step-claims t) (step-at t) step.Post
 step-returns-2 t c =
     let a = c .before .before .before .before .before .before .before .before .before .before .before .before .before .before .before .before .before .before .before .before .before .before .before .args in
     let table = records (a .owners .now) (a .heads .now) (a .highs .now) (a .lows .now) in
@@ -1070,14 +384,7 @@ step-returns-2 t c =
     (c .relink .last .1 .1 .1 .0) (c .relink .last .1 .1 .1 .1 .0) (c .relink .ensures .0) (c .relink .ensures .1)
 
 pub +search+step-spec : {M : Type 1} → statement M
-+search+step-spec = close μ-search μ-step (λ t. search-lts.spec (
-  length-reads.Asked,
-  length-reads.Learnt,
-  step-below t,
-  step.Post,
-  wide-reads.Asked,
-  wide-reads.Learnt,
-)
++search+step-spec = close μ-search μ-step (λ t. search-lts.spec (search-claims t)
     (search-at t)
     search′.Post
     search-Inv-loop
@@ -1098,28 +405,7 @@ pub +search+step-spec : {M : Type 1} → statement M
     (search-same-length-3 t)
     (search-same-length-4 t)
     (search-returns-2 t))
-    λ t. step-lts.spec (
-      length-reads.Asked,
-      length-reads.Learnt,
-      joined-reads.Asked,
-      joined-reads.Learnt,
-      ttl-reads.Asked,
-      ttl-reads.Learnt,
-      lesser-reads.Asked,
-      lesser-reads.Learnt,
-      keep-reads.Asked,
-      keep-reads.Learnt,
-      target-reads.Asked,
-      target-reads.Learnt,
-      wide-reads.Asked,
-      wide-reads.Learnt,
-      unlink-reads.Asked,
-      unlink-reads.Learnt,
-      search-below t,
-      search′.Post,
-      relink-reads.Asked,
-      relink-reads.Learnt,
-    )
+    λ t. step-lts.spec (step-claims t)
     (step-at t)
     step.Post
     (step-mul-record t)
