@@ -366,11 +366,7 @@ fn generated_collapses_agree_octet_for_octet() {
     let mut met = Met::default();
     let (mut folded, mut cases) = (0, 0);
     while cases < GENERATED {
-        if random.once_in(3) {
-            make::tangle(&mut random, &mut made, 9, &mut tangle);
-        } else {
-            make::layers(&mut random, &mut made, 9, &mut tangle);
-        }
+        make::either(&mut random, &mut made, 3, [9, 9], &mut tangle);
         let Tangle { table, names } = &mut tangle;
         plan::spoil(&mut random, &mut made, table);
         let mut name = names[random.below(names.len())].clone();
@@ -438,11 +434,7 @@ fn lists(seed: u64) {
     let mut met = Met::default();
     let (mut changed, mut needed, mut lost) = (0, 0, 0);
     for list in 0..LISTS {
-        if random.once_in(4) {
-            make::tangle(&mut random, &mut made, 7, &mut tangle);
-        } else {
-            make::layers(&mut random, &mut made, 8, &mut tangle);
-        }
+        make::either(&mut random, &mut made, 4, [7, 8], &mut tangle);
         let mut table = tangle.table.clone();
         let mut names = Graph::new(&table).names().to_vec();
         names.push(whole(&name("nobody.at.all")).expect("a name"));

@@ -92,7 +92,9 @@ fn every_wrong_answer_is_listed() {
 
 #[test]
 fn every_file_that_is_named_is_there() {
-    for document in ["README.md", "docs/READING.md", "docs/DECISIONS.md", "docs/FORMATS.md", "docs/PERFORMANCE.md"] {
+    let pages = ["README.md", "docs/READING.md", "docs/DECISIONS.md", "docs/FORMATS.md", "docs/PERFORMANCE.md"];
+    let changes = names_in("docs/changes", ".md").into_iter().map(|name| format!("docs/changes/{name}.md"));
+    for document in &pages.into_iter().map(str::to_owned).chain(changes).collect::<Vec<_>>() {
         for named in text_of(document).split('`').skip(1).step_by(2) {
             let is_path = named.starts_with("crates/") && !named.contains(['*', ' ', '<']);
             assert!(!is_path || repository().join(named).exists(), "{document} names {named}");

@@ -447,11 +447,7 @@ fn enumerated(lookup: Lookup) {
     let (mut made, mut tangle) = (Name::new(), Tangle::default());
     let (mut names, mut differ) = (0, 0);
     while names < NAMES {
-        if random.once_in(2) {
-            make::tangle(&mut random, &mut made, 6, &mut tangle);
-        } else {
-            make::layers(&mut random, &mut made, 6, &mut tangle);
-        }
+        make::either(&mut random, &mut made, 2, [6, 6], &mut tangle);
         let graph = Graph::new(&tangle.table);
         for name in &tangle.names {
             let (mut out, mut ttls, mut figures) = ([0; 16 * ROOM], [0; ROOM], [0; 2]);

@@ -207,6 +207,15 @@ pub fn deep(random: &mut Random, records: usize, tangle: &mut Tangle) {
     any_ttls(random, table);
 }
 
+/// One of the two kinds, a tangle once in so many times, with up to this many records of each kind.
+pub fn either(random: &mut Random, made: &mut Name, once_in: usize, [most, layered]: [usize; 2], made_of: &mut Tangle) {
+    if random.once_in(once_in) {
+        tangle(random, made, most, made_of);
+    } else {
+        layers(random, made, layered, made_of);
+    }
+}
+
 // Tables whose work is beyond counting.
 
 /// Names that own two records each, both of which lead to the next name; the last one's are finished.
