@@ -20,7 +20,7 @@ use Rattle.chains.specs.Lifetimes.{lifetimeOf}
 use Rattle.chains.specs.Renaming.{Alike, Renamed}
 use Rattle.chains.proofs.RenamingLaws.{renaming}
 use Rattle.chains.proofs.LifetimeLaws.{lifetime-renamed}
-use Rattle.plan.specs.Layout.{isA6, countOf, recordAt, prefixAt, ttlAt}
+use Rattle.plan.specs.Layout.{isA6, countOf, recordAt, prefixAt, addressAt, ttlAt}
 use Rattle.plan.specs.Check.{checkOf, InOrder}
 use Rattle.plan.proofs.OrderLaws.{order-count, order-good}
 use Rattle.plan.proofs.FaultLaws.{targetless-on}
@@ -31,8 +31,8 @@ use Rattle.numbering.proofs.NumberLaws.{number-most}
 use Rattle.numbering.proofs.NamesLaws.{own-listed, target-listed, number-standard}
 use Rattle.numbering.proofs.OrderLaws.{names-fit, target-short}
 use Rattle.numbering.proofs.GraphLaws.{lookup-renamed, lifetime-number}
-use Rattle.forward.specs.Gather.{noOwner, Halved}
-use Rattle.search.specs.Search.{headOf, targetIn, lengthIn, ttlIn, Records, records, targetOf, lengthOf, ttlOf}
+use Rattle.forward.specs.Gather.{noOwner}
+use Rattle.search.specs.Search.{headOf, targetIn, lengthIn, ttlIn, Records, records, targetOf, lengthOf, ttlOf, addressIn}
 use Rattle.search.proofs.HeadLaws.{target-back, length-back, ttl-back}
 use Rattle.search.specs.Search as search′
 use Rattle.search.specs.Links.{maxNames, Numbered}
@@ -61,15 +61,15 @@ module _ {N M : Type 0} (g : Graph N) (h : Graph M) (x : N) (y : M) (w : workOf 
   lives-like l (suc k) room = refl
 
 -- what the arrays hold once they are filled
-pub record Filled (t owners heads highs lows : List ℕ) : Type 0 where
+pub record Filled (t owners fields : List ℕ) : Type 0 where
   pub owner : (i : ℕ) → i < countOf t → getD owners i 0 ≡ pick (isA6 (recordAt t i)) (ownNumber t i) noOwner
-  pub head : (i : ℕ) → i < countOf t → getD heads i 0 ≡ headOf (targetNumber t i) (prefixAt t i) (ttlAt t i)
-  pub halved : Halved t highs lows (countOf t)
+  pub head : (i : ℕ) → i < countOf t → getD fields i 0 ≡ headOf (targetNumber t i) (prefixAt t i) (ttlAt t i)
+  pub address : (i : ℕ) → i < countOf t → addressIn fields i ≡ addressAt t i
   pub owners-long : countOf t ≤ length owners
 
-module _ (t owners heads highs lows : List ℕ) (o : InOrder t) (f : Filled t owners heads highs lows) where
+module _ (t owners fields : List ℕ) (o : InOrder t) (f : Filled t owners fields) where
   abbrev read : Records
-  read = records (take (countOf t) owners) heads highs lows
+  read = records (take (countOf t) owners) fields
 
   read-size : length (take (countOf t) owners) ≡ countOf t
   read-size = length-take-le (countOf t) owners (f .owners-long)
@@ -128,7 +128,7 @@ module _ (t owners heads highs lows : List ℕ) (o : InOrder t) (f : Filled t ow
   read-renamed = record {
     sizes = sym read-size;
     lengths = λ i h. sym (read-length i h);
-    addresses = λ i h. sym (f .halved .address i h);
+    addresses = λ i h. sym (f .address i h);
     targets = λ i h p. rw (read-target i h) (read-alike (targetNumber t i) (target-small i h p));
   }
 

@@ -5,8 +5,7 @@ use mathlib.Core.List.{List}
 use lib.ListN.{getD}
 use Rattle.chains.specs.Lists.{pick}
 use Rattle.plan.specs.Layout.{isA6, recordAt, prefixAt, addressAt, ttlAt}
-use Rattle.rows.specs.Halves.{addressOf}
-use Rattle.search.specs.Search.{headOf}
+use Rattle.search.specs.Search.{headOf, addressIn}
 
 -- a number that no name has, for a record that no name owns in the search
 abbrev pub noOwner : ℕ
@@ -20,6 +19,7 @@ searchOwner t owners i = pick (isA6 (recordAt t i)) (getD owners i 0) noOwner
 abbrev pub searchHead : List ℕ → List ℕ → ℕ → ℕ
 searchHead t targets i = headOf (getD targets i 0) (prefixAt t i) (ttlAt t i)
 
--- the first n pairs of halves are the addresses of the records
-pub record Halved (t highs lows : List ℕ) (n : ℕ) : Type 0 where
-  pub address : (i : ℕ) → i < n → addressOf (getD highs i 0) (getD lows i 0) ≡ addressAt t i
+-- the fields of the first n records are those of the table, with the targets of the list
+pub record Fielded (t targets fields : List ℕ) (n : ℕ) : Type 0 where
+  pub head : (i : ℕ) → i < n → getD fields i 0 ≡ searchHead t targets i
+  pub address : (i : ℕ) → i < n → addressIn fields i ≡ addressAt t i

@@ -1,12 +1,16 @@
 // The records of a table in arrays, as the search reads them (specs/Gather).
 ghost use mathlib.Core.Path.{_≡_};
-ghost use Prim.Native.Nat.{_≤_};
+ghost use Prim.Native.Nat.{_*_, _≤_};
 ghost use lib.ListN.{length};
 ghost use Rattle.chains.specs.Lists.{pick};
 ghost use lib.Dec.{eqb};
 ghost use Rattle.plan.specs.Layout.{a6, countOf};
 ghost use Rattle.numbering.specs.Numbers.{filled};
-ghost use Rattle.forward.specs.Gather.{noOwner, searchOwner, searchHead, Halved};
+ghost use Rattle.search.specs.Search.{maxRecords};
+ghost use Rattle.forward.specs.Gather.{noOwner, searchOwner, Fielded};
+use search::inside::FIELDS;
+use search::inside::HIGHS;
+use search::inside::LOWS;
 
 // A number that no name has.
 const NO_OWNER: u16 = 2303;
@@ -34,32 +38,20 @@ fn owner_of(kind: u16, number: u16) -> u16
     NO_OWNER
 }
 
-// The heads, with these targets.
-pub fn set_heads(table: &[u8], targets: &[u16], heads: &mut [u64])
-    requires { ⌜ (countOf (now table) ≤ length (now targets)) × (countOf (now table) ≤ length (now heads)) ⌝ }
-    ensures { λ _. ⌜ now (heads .exit) ≡ filled (searchHead (now (table .entry)) (now (targets .entry))) (countOf (now (table .entry))) (now (heads .entry)) ⌝ }
+// The fields of the records: the heads, with these targets, and the addresses, two halves each.
+pub fn set_fields(table: &[u8], targets: &[u16], fields: &mut [u64; FIELDS])
+    requires { ⌜ (countOf (now table) ≤ length (now targets)) × (countOf (now table) ≤ maxRecords) × (length (now fields) ≡ 3 * maxRecords) ⌝ }
+    ensures { λ _. ⌜ Fielded (now (table .entry)) (now (targets .entry)) (now (fields .exit)) (countOf (now (table .entry))) ⌝ }
 {
     let n = plan::inside::count(table);
     let mut i: usize = 0;
     while i < n {
         let prefix = plan::inside::prefix(table, i);
         let ttl = plan::inside::ttl(table, i);
-        heads[i] = search::inside::head_of(targets[i], prefix, ttl);
-        i += 1;
-    }
-}
-
-// The addresses, two halves each.
-pub fn set_halves(table: &[u8], highs: &mut [u64], lows: &mut [u64])
-    requires { ⌜ (countOf (now table) ≤ length (now highs)) × (countOf (now table) ≤ length (now lows)) ⌝ }
-    ensures { λ _. ⌜ Halved (now (table .entry)) (now (highs .exit)) (now (lows .exit)) (countOf (now (table .entry))) ⌝ }
-{
-    let n = plan::inside::count(table);
-    let mut i: usize = 0;
-    while i < n {
         let address = plan::inside::address(table, i);
-        highs[i] = octets::numbers::half(&address, 0);
-        lows[i] = octets::numbers::half(&address, 8);
+        fields[i] = search::inside::head_of(targets[i], prefix, ttl);
+        fields[HIGHS + i] = octets::numbers::half(&address, 0);
+        fields[LOWS + i] = octets::numbers::half(&address, 8);
         i += 1;
     }
 }

@@ -57,15 +57,12 @@ fn look(table: &[u8], name: &[u8], limit: u32, out: &mut [u8], lives: &mut [u32]
 {
     let mut owners = [0u16; search::inside::RECORDS];
     let mut targets = [0u16; search::inside::RECORDS];
-    let mut heads = [0u64; search::inside::RECORDS];
-    let mut highs = [0u64; search::inside::RECORDS];
-    let mut lows = [0u64; search::inside::RECORDS];
+    let mut fields = [0u64; search::inside::FIELDS];
     let x = numbering::inside::number(table, name, &mut owners, &mut targets);
     gather::set_owners(table, &mut owners);
-    gather::set_heads(table, &targets, &mut heads);
-    gather::set_halves(table, &mut highs, &mut lows);
+    gather::set_fields(table, &targets, &mut fields);
     let n = plan::inside::count(table);
-    search::inside::find(&owners[..n], &heads, &highs, &lows, x, limit, out, lives)
+    search::inside::find(&owners[..n], &fields, x, limit, out, lives)
 }
 
 mod gather;

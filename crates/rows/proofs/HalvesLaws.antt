@@ -1,15 +1,19 @@
 -- Addresses in two halves: they are the octets that were read, their order is that of the numbers, and joining them is joining addresses. Assumes nothing.
 use Prim.Native.Nat.{ℕ, zero, suc, _+_, _-_, _*_, _/_, _%_, _^_, _≤_, _<_}
 use mathlib.Core.Path.{_≡_, refl, sym, ap, _∙_}
+use mathlib.Core.Bool.{Bool, true, false}
 use mathlib.Core.List.{List, [], _++_, append-assoc, append-nil}
 use native.Mathlib.Nat.{mod-lt, mod-eq-of-lt}
 use native.Mathlib.Omega.{arith}
 use lib.Arith.{digits-lt}
+use lib.Dec.{eqb}
 use lib.ListN.{length, take, drop, length-append, length-take, length-drop}
 use lib.Pow.{pow-pos, pow-add, high, low, shr-lt}
 use lib.Seq.{take-at, drop-at, take-append-add, drop-append-add, take-add, drop-drop}
+use borrow.Author.Tests.{eqb-true, eqb-false}
 use Rattle.octets.specs.Octets.{Small}
 use Rattle.bits.specs.Bits.{Bits, bitsOf, packFrom, pack}
+use Rattle.octets.proofs.BoolLaws.{refuted}
 use Rattle.octets.proofs.OctetLaws.{small-take, small-drop}
 use Rattle.bits.proofs.BitLaws.{bits-length, bits-split, pack-full}
 use Rattle.bits.proofs.PackingLaws.{unpack-pack, bits-append, bits-bits, bits-mod}
@@ -17,10 +21,12 @@ use Rattle.address.specs.declared.Order.the-variants.{Before, Same, After}
 use Rattle.address.specs.Address.{bits, joinOf}
 use Rattle.address.specs.Order.{orderOf}
 use Rattle.octets.specs.Numbers.{valueOf, octetsOf}
-use Rattle.octets.proofs.NumberLaws.{value-append, octets-length, octets-small, value-octets, octets-value}
+use Rattle.octets.proofs.NumberLaws.{value-append, octets-length, octets-small, value-octets, value-half, octets-value}
 use Rattle.octets.proofs.SmallLaws.{small-append}
-use Rattle.address.proofs.OrderLaws.{value-precedes, precedes-after, equal-same}
+use Rattle.address.proofs.OrderLaws.{value-precedes, precedes-after, same-equal, equal-same}
 use Rattle.rows.specs.Halves.{addressOf}
+use Rattle.rows.specs.Rows.{isSame}
+use Rattle.rows.proofs.RowsLaws.{is-same}
 
 -- ---- bits of numbers
 -- only the lowest k bits count
@@ -180,6 +186,24 @@ module _ (o : List ℕ) (at : ℕ) (n : at + 16 ≤ length o) (s : Small o) wher
 
     pub stands-same : valueOf first ≡ h → valueOf last ≡ l → orderOf (take 16 (drop at o)) (addressOf h l) ≡ Same
     stands-same p q = equal-same (take 16 (drop at o)) (addressOf h l) (sym halves ∙ λ i. addressOf (p i) (q i))
+
+    -- the row is the address where both halves are the same, and only there
+    same-halves : isSame (orderOf (take 16 (drop at o)) (addressOf h l)) ≡ true → (valueOf first ≡ h) × (valueOf last ≡ l)
+    same-halves e =
+        let v = ap valueOf (same-equal (take 16 (drop at o)) (addressOf h l) (is-same (orderOf (take 16 (drop at o)) (addressOf h l)) e)) in
+        let b = value-half o (at + 8) (omega arith) s in
+        let p : valueOf first ≡ h = omega (arith, v, b, row-value, address-value) in
+        (p, omega (arith, v, p, row-value, address-value))
+
+    pub first-other : (valueOf first ≡ h → ⊥) → false ≡ isSame (orderOf (take 16 (drop at o)) (addressOf h l))
+    first-other p = sym (refuted _ (λ e. p (same-halves e .0)))
+
+    pub last-tells : valueOf first ≡ h → eqb (valueOf last) l ≡ isSame (orderOf (take 16 (drop at o)) (addressOf h l))
+    last-tells p = go (eqb (valueOf last) l) refl
+      where
+        go : (b : Bool) → eqb (valueOf last) l ≡ b → b ≡ isSame (orderOf (take 16 (drop at o)) (addressOf h l))
+        go true q = ap isSame (sym (stands-same p (eqb-true (valueOf last) l q)))
+        go false q = sym (refuted _ (λ e. eqb-false (valueOf last) l q (same-halves e .1)))
 
 -- ---- bits of one number above k, and of another below
 pub mixed-lt : (x y k : ℕ) → k < 64 → x < 2 ^ 64 → x / 2 ^ k * 2 ^ k + y % 2 ^ k < 2 ^ 64

@@ -11,6 +11,7 @@ use lib.Seq.{take-at, drop-at, drop-append-add}
 use Rattle.octets.proofs.FlatLaws.{each-drop, flat-length, flat-append, flat-take, flat-drop, flat-at}
 use Rattle.chains.proofs.ListLaws.{in-at}
 use Rattle.octets.specs.Octets.{blank, flat, Each}
+use Rattle.octets.proofs.BoolLaws.{refuted}
 use Rattle.octets.proofs.OctetLaws.{length-blank}
 use Rattle.address.specs.declared.Order.{Order}
 use Rattle.address.specs.declared.Order.the-variants.{Before, Same, After}
@@ -18,8 +19,8 @@ use Rattle.address.specs.Order.{orderOf, Precedes}
 use Rattle.address.proofs.OrderLaws.{same-equal, equal-same, precedes-transitive}
 use Rattle.chains.specs.Addresses.{Ascending, choose, insert}
 use Rattle.chains.proofs.AddressesLaws.{insert-ascending}
-use Rattle.rows.specs.Rows.{row, seek, putAt, lowered, Kept, keepIn, Holds, Ordered}
-use Rattle.rows.proofs.RowsLaws.{seek-end, seek-right, seek-left, keep-full, keep-at, keep-found, keep-new, keep-over}
+use Rattle.rows.specs.Rows.{row, seek, putAt, lowered, Kept, isSame, keepIn, Holds, Ordered}
+use Rattle.rows.proofs.RowsLaws.{seek-end, seek-right, seek-left, is-same, keep-full, keep-at, keep-found, keep-new, keep-over}
 
 -- ---- the place of an address: after all that come before it
 unfoldable pub rank : List ℕ → List (List ℕ) → ℕ
@@ -192,40 +193,25 @@ module _ (room : ℕ) (v : List ℕ) (t : ℕ) (l : List (List ℕ)) (s : Kept) 
     long : length (s .out) ≡ room * 16
     long = ap length out ∙ omega (arith, length-append (flat l) rest, flat-length 16 l (h .rows), length-blank ((room - length l) * 16))
 
+    -- a row is v where the list has v
+    told : (j : ℕ) → j < length l → isSame (orderOf (row (s .out) j) v) ≡ isSame (orderOf (getD l j []) v)
+    told j q = ap (λ (a : List ℕ). isSame (orderOf a v)) (same-row j q)
+
     -- what is kept of an address that stands in a row: the lesser lifetime
     abbrev pub again : ℕ → Kept
     again j = record { out = s .out; lives = lowered j t (s .lives); count = s .count; full = s .full }
 
-    there : (j : ℕ) → j < length l → orderOf (getD l j []) v ≡ Same → again j ≡ keepIn v t s
+    there : (j : ℕ) → j < s .count → isSame (orderOf (row (s .out) j) v) ≡ true → again j ≡ keepIn v t s
     there j q e =
-        let z : j ≡ k = sym (rank-at v l j (h .ascending) q (same-equal (getD l j []) v e)) in
-        ap again z ∙ keep-found v t s k (omega (arith, count)) (ap (λ (i : ℕ). orderOf (row (s .out) i) v) (sym z) ∙ ap (λ (a : List ℕ). orderOf a v) (same-row j q) ∙ e)
-        ∙ keep-at v t s k lax place
-
-    -- a row before or after it tells where to seek
-    among : (a b : ℕ) → a ≤ k → k ≤ b → b ≤ length l → seek (b - a) (s .out) v a b ≡ seek (s .count) (s .out) v 0 (s .count)
-    among a b p q m =
-        ap (λ (o : List ℕ). seek (b - a) o v a b) out ∙ seek-rank v l rest (h .rows) (h .ascending) (b - a) a b p q m (omega arith) ∙ place
-
-    above : (j : ℕ) → j < length l → orderOf (getD l j []) v ≡ Before → j + 1 ≤ k
-    above j q e = go (decLt j k)
-      where
-        go : Dec (j < k) → j + 1 ≤ k
-        go (yes m) = omega arith
-        go (no m) = absurd (rank-after v l j (h .ascending) q (omega (arith, m)) e)
-
-    below : (j : ℕ) → orderOf (getD l j []) v ≡ After → k ≤ j
-    below j e = go (decLt j k)
-      where
-        go : Dec (j < k) → k ≤ j
-        go (yes m) = absurd (let z : _≡_ {A = ℕ} 0 1 = cc (e, rank-before v l j m) in omega arith)
-        go (no m) = omega (arith, m)
+        let q′ : j < length l = omega (arith, count) in
+        let z : j ≡ k = sym (rank-at v l j (h .ascending) q′ (same-equal (getD l j []) v (is-same (orderOf (getD l j []) v) (sym (told j q′) ∙ e)))) in
+        ap again z ∙ keep-found v t s k (omega (arith, z)) (ap (λ (i : ℕ). isSame (orderOf (row (s .out) i) v)) (sym z) ∙ e) ∙ keep-at v t s k lax place
 
     module _ (m : k < length l → orderOf (getD l k []) v ≡ Same → ⊥) where
-      absent : k < s .count → orderOf (row (s .out) k) v ≡ Same → ⊥
-      absent q e =
+      absent : k < s .count → isSame (orderOf (row (s .out) k) v) ≡ false
+      absent q =
           let q′ : k < length l = omega (arith, count) in
-          m q′ (sym (ap (λ (a : List ℕ). orderOf a v) (same-row k q′)) ∙ e)
+          told k q′ ∙ refuted (isSame (orderOf (getD l k []) v)) (λ e. m q′ (is-same (orderOf (getD l k []) v) e))
 
       pub longer : length (insert v l) ≡ suc (length l)
       longer =
@@ -237,7 +223,7 @@ module _ (room : ℕ) (v : List ℕ) (t : ℕ) (l : List (List ℕ)) (s : Kept) 
     added = record { out = putAt 16 (k * 16) (s .count * 16) v (s .out); lives = putAt 1 k (s .count) (t ∷ []) (s .lives); count = s .count + 1; full = false }
 
     abbrev pub past : Kept
-    past = record { out = s .out; lives = s .lives; count = s .count; full = true }
+    past = record { out = s .out; lives = s .lives; count = 0; full = true }
 
     pub keep-cases : (P : Kept → Type 0)
         → (k < length l → orderOf (getD l k []) v ≡ Same → P (again k))
@@ -251,7 +237,7 @@ module _ (room : ℕ) (v : List ℕ) (t : ℕ) (l : List (List ℕ)) (s : Kept) 
         apart m (no q) = subst P (keep-over v t s k (absent m) (omega (arith, long, count, q)) ∙ keep-at v t s k lax place) (over m (omega (arith, q)))
 
         go : Dec (k < length l) → (o : Order) → orderOf (getD l k []) v ≡ o → P (keepIn v t s)
-        go (yes q) Same e = subst P (there k q e) (found q e)
+        go (yes q) Same e = subst P (there k (omega (arith, count)) (told k q ∙ ap isSame e)) (found q e)
         go (yes q) Before e = apart (λ q f. let z : _≡_ {A = ℕ} 0 1 = cc in omega arith) (decLt (length l) room)
         go (yes q) After e = apart (λ q f. let z : _≡_ {A = ℕ} 0 1 = cc in omega arith) (decLt (length l) room)
         go (no q) o e = apart (λ p f. q p) (decLt (length l) room)
@@ -280,7 +266,7 @@ module _ (room : ℕ) (v : List ℕ) (t : ℕ) (l : List (List ℕ)) (s : Kept) 
         over m q = record {
           rows = insert-rows v l n (h .rows);
           ascending = insert-ascending v l (h .ascending);
-          stands = inr (refl, omega (arith, longer m));
+          stands = inr (refl, refl, omega (arith, longer m));
         }
 
   -- keeping v keeps this true of the list with v
@@ -291,7 +277,7 @@ module _ (room : ℕ) (v : List ℕ) (t : ℕ) (l : List (List ℕ)) (s : Kept) 
       subst (λ (c : Kept). Holds room (insert v l) c) (keep-full v t s (w .0)) record {
         rows = insert-rows v l n (h .rows);
         ascending = insert-ascending v l (h .ascending);
-        stands = inr (w .0, omega (arith, w .1, insert-length v l .0));
+        stands = inr (w .0, w .1, omega (arith, w .2, insert-length v l .0));
       })
       (h .stands)
 
@@ -299,32 +285,8 @@ module _ (room : ℕ) (v : List ℕ) (t : ℕ) (l : List (List ℕ)) (s : Kept) 
 pub keep-ordered : (v : List ℕ) (t : ℕ) (s : Kept) → length v ≡ 16 → Ordered s → Ordered (keepIn v t s)
 keep-ordered v t s n o = record { room = o .room; list = insert v (o .list); holds = keep-holds (o .room) v t (o .list) s n (o .holds) }
 
--- what one of the rows tells of an address
-module _ (v : List ℕ) (t : ℕ) (s : Kept) (n : length v ≡ 16) (o : Ordered s) (lax : s .full ≡ false) where
-  abbrev l : List (List ℕ)
-  l = o .list
-
-  held : (s .count ≡ length l) × (length l ≤ o .room) × (s .out ≡ flat l ++ blank ((o .room - length l) * 16))
-  held = ⊎-elim (λ w. (w .1, w .2, w .3)) (λ w. absurd (let z : _≡_ {A = ℕ} 0 1 = cc (lax, w .0) in omega arith)) (o .holds .stands)
-
-  module _ (j : ℕ) (h : j < s .count) where
-    inside : j < length l
-    inside = omega (arith, held .0)
-
-    listed : (e : Order) → orderOf (row (s .out) j) v ≡ e → orderOf (getD l j []) v ≡ e
-    listed e p = ap (λ (a : List ℕ). orderOf a v) (sym (same-row (o .room) v t l s n (o .holds) lax (held .0) (held .1) (held .2) j inside)) ∙ p
-
-    -- it is the address: only its lifetime may change
-    pub keep-met : orderOf (row (s .out) j) v ≡ Same → record { out = s .out; lives = lowered j t (s .lives); count = s .count; full = s .full } ≡ keepIn v t s
-    keep-met e = there (o .room) v t l s n (o .holds) lax (held .0) (held .1) (held .2) j inside (listed Same e)
-
-    -- it comes before the address, or after it
-    pub seek-above : orderOf (row (s .out) j) v ≡ Before → seek (s .count - (j + 1)) (s .out) v (j + 1) (s .count) ≡ seek (s .count) (s .out) v 0 (s .count)
-    seek-above e =
-        among (o .room) v t l s n (o .holds) lax (held .0) (held .1) (held .2) (j + 1) (s .count)
-        (above (o .room) v t l s n (o .holds) lax (held .0) (held .1) (held .2) j inside (listed Before e)) (omega (arith, held .0, rank-within v l)) (omega (arith, held .0))
-
-    pub seek-below : orderOf (row (s .out) j) v ≡ After → seek (j - 0) (s .out) v 0 j ≡ seek (s .count) (s .out) v 0 (s .count)
-    seek-below e =
-        among (o .room) v t l s n (o .holds) lax (held .0) (held .1) (held .2) 0 j (omega arith)
-        (below (o .room) v t l s n (o .holds) lax (held .0) (held .1) (held .2) j (listed After e)) (omega (arith, inside))
+-- an address that stands in a row: only its lifetime may change
+pub keep-met : (v : List ℕ) (t : ℕ) (s : Kept) → length v ≡ 16 → Ordered s → (j : ℕ) → j < s .count → isSame (orderOf (row (s .out) j) v) ≡ true
+    → record { out = s .out; lives = lowered j t (s .lives); count = s .count; full = s .full } ≡ keepIn v t s
+keep-met v t s n o j h e =
+    ⊎-elim (λ w. there (o .room) v t (o .list) s n (o .holds) (w .0) (w .1) (w .2) (w .3) j h e) (λ w. absurd (omega (arith, w .1))) (o .holds .stands)

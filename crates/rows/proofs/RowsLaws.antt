@@ -6,7 +6,7 @@ use mathlib.Core.Bool.{Bool, true, false, _&&_}
 use mathlib.Core.List.{List, [], _∷_, _++_, append-assoc, append-nil}
 use native.Mathlib.Omega.{arith}
 use lib.Dec.{ltb, eqb}
-use lib.ListN.{length, getD, set, take, drop, length-append, length-drop, take-append-drop, List·getD-append}
+use lib.ListN.{length, getD, set, take, drop, length-append, length-drop, length-set, take-append-drop, List·getD-append}
 use lib.Seq.{drop-cons, drop-drop, getD-take, getD-set-same, getD-set-other, take-suc, take-take, take-all, take-append-le, append-snoc, length-take-le, set-at, set-getD, drop-at, paste, take-paste, drop-paste}
 use types.Run.{OneOf}
 use denote.Enum.Declared.{tagOf}
@@ -16,6 +16,7 @@ use Rattle.address.specs.declared.Order.{Order}
 use Rattle.address.specs.declared.Order.the-variants.{Before, Same, After}
 use Rattle.address.specs.Order.{orderOf}
 use Rattle.octets.specs.Numbers.{octetsOf}
+use Rattle.octets.proofs.BoolLaws.{clash}
 use Rattle.octets.proofs.NumberLaws.{octets-length}
 use Rattle.rows.specs.Halves.{addressOf}
 use Rattle.rows.specs.Rows.{row, seek, moved, putAt, lowered, Kept, maxFigures, kept, isSame, keepAt, keepIn}
@@ -46,17 +47,14 @@ module _ (most : ℕ) (out v : List ℕ) (a b : ℕ) (h : a < b) where
 pub not-before : (o : Order) → OneOf (1 ∷ 2 ∷ []) (tagOf the-type o) → o ≡ Before → ⊥
 not-before o k e = ⊎-elim (λ q. omega arith) (λ q. omega arith) (subst (λ (v : Order). OneOf (1 ∷ 2 ∷ []) (tagOf the-type v)) e k)
 
-pub not-same : (o : Order) → OneOf (0 ∷ 2 ∷ []) (tagOf the-type o) → o ≡ Same → ⊥
-not-same o k e = ⊎-elim (λ q. omega arith) (λ q. omega arith) (subst (λ (v : Order). OneOf (0 ∷ 2 ∷ []) (tagOf the-type v)) e k)
-
 -- what is left to seek, from a to b, comes to what all of it comes to, r
 pub record Seeking (out v : List ℕ) (r a b : ℕ) : Type 0 where
   pub most : ℕ
   pub enough : b - a ≤ most
   pub comes : seek most out v a b ≡ r
 
-pub seeking-start : (out v : List ℕ) (a b : ℕ) → Seeking out v (seek (b - a) out v a b) a b
-seeking-start out v a b = record { most = b - a; enough = omega arith; comes = refl }
+pub seeking-start : (out v : List ℕ) (count : ℕ) → Seeking out v (seek count out v 0 count) 0 count
+seeking-start out v count = record { most = count; enough = omega arith; comes = refl }
 
 module _ (out v : List ℕ) (r : ℕ) where
   pub seeking-end : (a b : ℕ) → b ≤ a → Seeking out v r a b → a ≡ r
@@ -177,6 +175,11 @@ unfolding lowered
 lowered-none l k t h = sym (ap (set l k) (let e : min (getD l k 0) t ≡ getD l k 0 = omega arith in e) ∙ set-getD l k 0)
 
 -- ---- keeping an address, case by case
+pub is-same : (o : Order) → isSame o ≡ true → o ≡ Same
+is-same Before h = absurd (clash h refl)
+is-same Same h = refl
+is-same After h = absurd (clash h refl)
+
 module _ (v : List ℕ) (t : ℕ) (s : Kept) where
   pub keep-full : s .full ≡ true → s ≡ keepIn v t s
   unfolding keepIn
@@ -187,32 +190,27 @@ module _ (v : List ℕ) (t : ℕ) (s : Kept) where
   keep-at k h e = rw (h, ← e)
 
   module _ (k : ℕ) where
-    pub keep-found : k < s .count → orderOf (row (s .out) k) v ≡ Same
+    pub keep-found : k < s .count → isSame (orderOf (row (s .out) k) v) ≡ true
         → record { out = s .out; lives = lowered k t (s .lives); count = s .count; full = s .full } ≡ keepAt k v t s
     unfolding keepAt
     keep-found l m = rw (lt-ltb k (s .count) l, m)
 
-    absent : (k < s .count → orderOf (row (s .out) k) v ≡ Same → ⊥) → ltb k (s .count) && isSame (orderOf (row (s .out) k) v) ≡ false
-    absent n = go (ltb k (s .count)) refl
-      where
-        other : (o : Order) → (o ≡ Same → ⊥) → isSame o ≡ false
-        other Before d = refl
-        other Same d = absurd (d refl)
-        other After d = refl
+    module _ (n : k < s .count → isSame (orderOf (row (s .out) k) v) ≡ false) where
+      absent : ltb k (s .count) && isSame (orderOf (row (s .out) k) v) ≡ false
+      absent = go (ltb k (s .count)) refl
+        where
+          go : (b : Bool) → ltb k (s .count) ≡ b → b && isSame (orderOf (row (s .out) k) v) ≡ false
+          go true p = n (ltb-true k (s .count) p)
+          go false p = refl
 
-        go : (b : Bool) → ltb k (s .count) ≡ b → b && isSame (orderOf (row (s .out) k) v) ≡ false
-        go true p = other (orderOf (row (s .out) k) v) (n (ltb-true k (s .count) p))
-        go false p = refl
-
-    module _ (n : k < s .count → orderOf (row (s .out) k) v ≡ Same → ⊥) where
       pub keep-new : s .count * 16 + 16 ≤ length (s .out)
           → record { out = putAt 16 (k * 16) (s .count * 16) v (s .out); lives = putAt 1 k (s .count) (t ∷ []) (s .lives); count = s .count + 1; full = false } ≡ keepAt k v t s
       unfolding keepAt
-      keep-new l = rw (absent n, le-leb (s .count * 16 + 16) (length (s .out)) l)
+      keep-new l = rw (absent, le-leb (s .count * 16 + 16) (length (s .out)) l)
 
-      pub keep-over : length (s .out) < s .count * 16 + 16 → record { out = s .out; lives = s .lives; count = s .count; full = true } ≡ keepAt k v t s
+      pub keep-over : length (s .out) < s .count * 16 + 16 → record { out = s .out; lives = s .lives; count = 0; full = true } ≡ keepAt k v t s
       unfolding keepAt
-      keep-over l = rw (absent n, lt-leb (s .count * 16 + 16) (length (s .out)) l)
+      keep-over l = rw (absent, lt-leb (s .count * 16 + 16) (length (s .out)) l)
 
 -- a hint changes nothing of what is kept
 pub kept-hint : (out lives figures : List ℕ) (spot k : ℕ) → 2 ≤ spot → kept out lives (set figures spot k) ≡ kept out lives figures
@@ -229,17 +227,18 @@ module _ (v : List ℕ) (t : ℕ) (out lives figures : List ℕ) (places : lengt
   abbrev count : ℕ
   count = getD figures 0 0
 
-  module _ (k : ℕ) (h : eqb (getD figures 1 0) 1 ≡ false) (n : k < count → orderOf (row out k) v ≡ Same → ⊥) where
-    pub kept-new : count * 16 + 16 ≤ length out → (out′ lives′ : List ℕ) → out′ ≡ putAt 16 (k * 16) (count * 16) v out → lives′ ≡ putAt 1 k count (t ∷ []) lives
+  module _ (k : ℕ) (n : k < count → isSame (orderOf (row out k) v) ≡ false) where
+    pub kept-new : eqb (getD figures 1 0) 1 ≡ false → count * 16 + 16 ≤ length out → (out′ lives′ : List ℕ) → out′ ≡ putAt 16 (k * 16) (count * 16) v out → lives′ ≡ putAt 1 k count (t ∷ []) lives
         → kept out′ lives′ (set figures 0 (count + 1)) ≡ keepAt k v t (kept out lives figures)
-    kept-new l out′ lives′ q r =
+    kept-new h l out′ lives′ q r =
         let c = getD-set-same figures 0 (count + 1) 0 (omega arith) in
         let f : eqb (getD (set figures 0 (count + 1)) 1 0) 1 ≡ false =
         ap (λ (b : ℕ). eqb b 1) (getD-set-other figures 0 1 (count + 1) 0 (λ z. omega arith)) ∙ h in
         (λ i. record { out = q i; lives = r i; count = c i; full = f i }) ∙ keep-new v t (kept out lives figures) k n l
 
-    pub kept-over : length out < count * 16 + 16 → kept out lives (set figures 1 1) ≡ keepAt k v t (kept out lives figures)
+    pub kept-over : length out < count * 16 + 16 → kept out lives (set (set figures 0 0) 1 1) ≡ keepAt k v t (kept out lives figures)
     kept-over l =
-        let c = getD-set-other figures 1 0 1 0 (λ z. omega arith) in
-        let f : eqb (getD (set figures 1 1) 1 0) 1 ≡ true = ap (λ (b : ℕ). eqb b 1) (getD-set-same figures 1 1 0 (omega arith)) in
+        let m : length (set figures 0 0) ≡ maxFigures = length-set figures 0 0 ∙ places in
+        let c : getD (set (set figures 0 0) 1 1) 0 0 ≡ 0 = getD-set-other (set figures 0 0) 1 0 1 0 (λ z. omega arith) ∙ getD-set-same figures 0 0 0 (omega arith) in
+        let f : eqb (getD (set (set figures 0 0) 1 1) 1 0) 1 ≡ true = ap (λ (b : ℕ). eqb b 1) (getD-set-same (set figures 0 0) 1 1 0 (omega arith)) in
         (λ i. record { out = out; lives = lives; count = c i; full = f i }) ∙ keep-over v t (kept out lives figures) k n l

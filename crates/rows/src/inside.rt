@@ -2,12 +2,12 @@
 ghost use mathlib.Core.Path.{_≡_};
 ghost use mathlib.Core.Bool.{false};
 ghost use mathlib.Core.List.{[], _∷_};
-ghost use Prim.Native.Nat.{_+_, _-_, _*_, _^_, _≤_, _<_};
+ghost use Prim.Native.Nat.{_+_, _*_, _≤_, _<_};
 ghost use lib.Dec.{eqb};
 ghost use lib.ListN.{length, getD, take, drop};
 ghost use Rattle.address.specs.Order.{orderOf};
 ghost use Rattle.rows.specs.Halves.{addressOf};
-ghost use Rattle.rows.specs.Rows.{seek, moved, putAt, lowered, maxHints, maxFigures, kept, keepAt, keepIn, Ordered};
+ghost use Rattle.rows.specs.Rows.{seek, moved, putAt, lowered, maxHints, maxFigures, kept, isSame, keepAt, keepIn, Ordered};
 use address::Order;
 
 // How many hints there are, and the figures: the count, the mark, then the hints (specs/Rows). A hint is the row where an address was
@@ -38,13 +38,24 @@ fn stands(out: &[u8], at: usize, high: u64, low: u64) -> Order
     Order::Same
 }
 
-// Where an address belongs among the rows from a to b.
-fn place(out: &[u8], a: usize, b: usize, high: u64, low: u64) -> usize
-    requires { ⌜ (a ≤ b) × (b * 16 ≤ length (now out)) ⌝ }
-    ensures { λ r. ⌜ (r ≡ seek (b - a) (now (out .entry)) (addressOf high low) a b) × (r ≤ b) ⌝ }
+// Whether the row at an octet is an address.
+fn is_at(out: &[u8], at: usize, high: u64, low: u64) -> bool
+    requires { ⌜ at + 16 ≤ length (now out) ⌝ }
+    ensures { λ r. ⌜ r ≡ isSame (orderOf (take 16 (drop at (now (out .entry)))) (addressOf high low)) ⌝ }
 {
-    let mut from = a;
-    let mut to = b;
+    if octets::numbers::half(out, at) != high {
+        return false;
+    }
+    octets::numbers::half(out, at + 8) == low
+}
+
+// Where an address belongs among the rows, of which there are `count`.
+fn place(out: &[u8], count: usize, high: u64, low: u64) -> usize
+    requires { ⌜ count * 16 ≤ length (now out) ⌝ }
+    ensures { λ r. ⌜ (r ≡ seek count (now (out .entry)) (addressOf high low) 0 count) × (r ≤ count) ⌝ }
+{
+    let mut from = 0;
+    let mut to = count;
     while from < to {
         let middle = (from + to) / 2;
         let order = stands(out, middle * 16, high, low);
@@ -105,7 +116,8 @@ fn lower(lives: &mut [u32], k: usize, ttl: u32)
     }
 }
 
-// Puts an address at the row k with its lifetime; where it stands there, the lesser lifetime stays; where there is no room, that is marked.
+// Puts an address at the row k with its lifetime; where it stands there, the lesser lifetime stays; where there is no room, that is marked
+// and the rows count for nothing.
 fn keep_at(
     out: &mut [u8],
     lives: &mut [u32],
@@ -122,13 +134,9 @@ fn keep_at(
     let count = figures[0];
     let at = k * 16;
     if k < count {
-        let order = stands(out, at, high, low);
-        match order {
-            Order::Same => {
-                lower(lives, k, ttl);
-                return;
-            }
-            _ => {}
+        if is_at(out, at, high, low) {
+            lower(lives, k, ttl);
+            return;
         }
     }
     let end = count * 16;
@@ -138,48 +146,41 @@ fn keep_at(
         figures[0] = count + 1;
         return;
     }
+    figures[0] = 0;
     figures[1] = 1;
 }
 
-// The same at the row where it belongs, which is sought among those from a to b and becomes the hint at a spot.
-fn keep_among(
+// The same at the row where it belongs, which is sought among all and becomes the hint at a spot.
+fn keep_sought(
     out: &mut [u8],
     lives: &mut [u32],
     figures: &mut [usize; FIGURES],
     spot: usize,
-    a: usize,
-    b: usize,
     high: u64,
     low: u64,
     ttl: u32,
 )
     requires { ⌜ (length (now figures) ≡ maxFigures) × (getD (now figures) 0 0 * 16 ≤ length (now out)) × (length (now lives) * 16 ≡ length (now out)) ⌝ }
     requires { ⌜ (2 ≤ spot) × (spot < maxFigures) × (eqb (getD (now figures) 1 0) 1 ≡ false) ⌝ }
-    requires { ⌜ (a ≤ b) × (b ≤ getD (now figures) 0 0) × (seek (b - a) (now out) (addressOf high low) a b ≡ seek (getD (now figures) 0 0) (now out) (addressOf high low) 0 (getD (now figures) 0 0)) ⌝ }
     ensures { λ _. ⌜ (kept (now (out .exit)) (now (lives .exit)) (now (figures .exit)) ≡ keepIn (addressOf high low) ttl (kept (now (out .entry)) (now (lives .entry)) (now (figures .entry)))) × (length (now (figures .exit)) ≡ maxFigures) × (getD (now (figures .exit)) 0 0 * 16 ≤ length (now (out .entry))) ⌝ }
 {
-    let k = place(out, a, b, high, low);
+    let count = figures[0];
+    let k = place(out, count, high, low);
     figures[spot] = k;
     keep_at(out, lives, figures, k, high, low, ttl);
 }
 
-// A number of 64 bits in fewer, for a spot.
-fn folded(x: u64) -> u64
-    ensures { λ r. ⌜ r < 2 ^ 34 ⌝ }
-{
-    x / 4294967296 + x % 4294967296 * 3
-}
-
-// The spot of an address among the hints. Any would do: this one keeps addresses apart that differ in few bits.
+// The spot of an address among the hints. Any would do: this one mostly keeps addresses apart that differ in few bits.
 fn spot_of(high: u64, low: u64) -> usize
     ensures { λ r. ⌜ r < maxHints ⌝ }
 {
-    let a = folded(high) + folded(low) * 5;
-    (a % 4294967296 * 2654435761 / 16777216) as usize % HINTS
+    let a = std::num::wrapping_add_u64(high, low % 2305843009213693952 * 8);
+    let b = a / 4294967296 + a % 4294967296;
+    (b % 4294967296 * 2654435761 / 16777216) as usize % HINTS
 }
 
 // Keeps an address in its place with its lifetime, the lesser one where it is there; where there is no room, that is marked. The row of the
-// hint mostly is the address; if not, it tells where to seek it.
+// hint mostly is the address; if not, the address is sought. Once the mark is set no hint is below the count, so the hint may come first.
 pub fn keep(
     out: &mut [u8],
     lives: &mut [u32],
@@ -191,28 +192,17 @@ pub fn keep(
     requires { ⌜ (length (now figures) ≡ maxFigures) × (getD (now figures) 0 0 * 16 ≤ length (now out)) × (length (now lives) * 16 ≡ length (now out)) × Ordered (kept (now out) (now lives) (now figures)) ⌝ }
     ensures { λ _. ⌜ (kept (now (out .exit)) (now (lives .exit)) (now (figures .exit)) ≡ keepIn (addressOf high low) ttl (kept (now (out .entry)) (now (lives .entry)) (now (figures .entry)))) × (length (now (figures .exit)) ≡ maxFigures) × (getD (now (figures .exit)) 0 0 * 16 ≤ length (now (out .entry))) ⌝ }
 {
-    if figures[1] == 1 {
-        return;
-    }
     let count = figures[0];
     let spot = 2 + spot_of(high, low);
     let hint = figures[spot];
     if hint < count {
-        let order = stands(out, hint * 16, high, low);
-        match order {
-            Order::Same => {
-                lower(lives, hint, ttl);
-                return;
-            }
-            Order::Before => {
-                keep_among(out, lives, figures, spot, hint + 1, count, high, low, ttl);
-                return;
-            }
-            Order::After => {
-                keep_among(out, lives, figures, spot, 0, hint, high, low, ttl);
-                return;
-            }
+        if is_at(out, hint * 16, high, low) {
+            lower(lives, hint, ttl);
+            return;
         }
     }
-    keep_among(out, lives, figures, spot, 0, count, high, low, ttl);
+    if figures[1] == 1 {
+        return;
+    }
+    keep_sought(out, lives, figures, spot, high, low, ttl);
 }

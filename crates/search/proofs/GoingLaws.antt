@@ -50,7 +50,7 @@ module _ (r : Records) (u : List ℕ) (x b m : ℕ) where
       fits-is (graphOf r) u x b m (lists-free (r .owners) u x m h) (leb-true (lengthOf r m) b l)
       (eq-eqb (getD (r .owners) m 0) x (lists-owner (r .owners) u x m h))
 
-module _ (r : Records) (limit x b : ℕ) (a : List ℕ) (c : ℕ) (m : Memory) where
+module _ (r : Records) (x b : ℕ) (a : List ℕ) (c : ℕ) (m : Memory) where
   abbrev n : ℕ
   n = length (r .owners)
 
@@ -58,7 +58,7 @@ module _ (r : Records) (limit x b : ℕ) (a : List ℕ) (c : ℕ) (m : Memory) w
   u = unusedOf r m
 
   abbrev to : ℕ → State
-  to i = searchedTo (graphOf r) limit u x b a c (stateOf m) i
+  to i = searchedTo (graphOf r) u x b a c (stateOf m) i
 
   -- ---- following the links passes over nothing that fits
   pass : (d j : ℕ) → ((w : ℕ) → j ≤ w → w < j + d → lists (r .owners) u x w ≡ false) → to (j + d) ≡ to j
@@ -66,7 +66,7 @@ module _ (r : Records) (limit x b : ℕ) (a : List ℕ) (c : ℕ) (m : Memory) w
   pass (suc d) j h =
       let e : j + suc d ≡ suc (j + d) = omega arith in
       ap to e
-      ∙ to-skip (graphOf r) limit u x b a c (stateOf m) (j + d) (unlisted r u x b (j + d) (h (j + d) (omega arith) (omega arith)))
+      ∙ to-skip (graphOf r) u x b a c (stateOf m) (j + d) (unlisted r u x b (j + d) (h (j + d) (omega arith) (omega arith)))
       ∙ pass d j (λ w l o. h w l (omega arith))
 
   pass-to : (j t : ℕ) → j ≤ t → ((w : ℕ) → j ≤ w → w < t → lists (r .owners) u x w ≡ false) → to t ≡ to j
@@ -92,7 +92,7 @@ module _ (r : Records) (limit x b : ℕ) (a : List ℕ) (c : ℕ) (m : Memory) w
         record {
           next = refl;
           prev = refl;
-          state = to-none (graphOf r) limit u x b a c (stateOf m) ∙ sym (pass-to 0 (min i n) (omega arith) (λ w p q. h .none w p (omega arith) (omega arith)));
+          state = to-none (graphOf r) u x b a c (stateOf m) ∙ sym (pass-to 0 (min i n) (omega arith) (λ w p q. h .none w p (omega arith) (omega arith)));
           places = t;
           room = o;
           out = refl;
@@ -136,7 +136,7 @@ module _ (r : Records) (limit x b : ℕ) (a : List ℕ) (c : ℕ) (m : Memory) w
       -- a record that is too long is passed over
       pub going-skip : (j : ℕ) → leb (lengthOf r i) b ≡ false → j ≡ getD (m′ .next) i 0 → Going m′ j
       going-skip j l ej =
-          going m′ j (v .next) (v .prev) (at-i ∙ sym (to-skip (graphOf r) limit u x b a c (stateOf m) i (long-unfit r u x b i l))) (v .places) (v .room) (v .out) (v .lives) ej
+          going m′ j (v .next) (v .prev) (at-i ∙ sym (to-skip (graphOf r) u x b a c (stateOf m) i (long-unfit r u x b i l))) (v .places) (v .room) (v .out) (v .lives) ej
 
       -- the links are as they were
       same-links : _≡_ {A = Memory} (memory (m′ .next) (m′ .prev) (m .out) (m .lives) (m .figures) 0) (memory (m .next) (m .prev) (m .out) (m .lives) (m .figures) 0)
@@ -146,7 +146,7 @@ module _ (r : Records) (limit x b : ℕ) (a : List ℕ) (c : ℕ) (m : Memory) w
       same-unused = ap (unusedOf r) same-links
 
       -- and the step is taken into any other: the memory is fit for it
-      pub going-fit : Fit r m b limit → length a ≡ 16 → Fit r m′ b limit
+      pub going-fit : Fit r m b → length a ≡ 16 → Fit r m′ b
       going-fit f w = record {
         numbered = f .numbered;
         nodes = ap length (v .next) ∙ f .nodes;
@@ -155,37 +155,36 @@ module _ (r : Records) (limit x b : ℕ) (a : List ℕ) (c : ℕ) (m : Memory) w
         room = subst (λ (w : ℕ). getD (m′ .figures) 0 0 * 16 ≤ w) (sym (v .out)) (v .room);
         level = ap (λ (w : ℕ). w * 16) (v .lives) ∙ f .level ∙ sym (v .out);
         ordered = subst (λ (s : State). Ordered (s .1)) (sym at-i)
-            (to-keeps (graphOf r) limit u x b a c (stateOf m) Ordered (λ j. address-length (getD (r .highs) j 0) (getD (r .lows) j 0)) keep-ordered w (f .ordered) i);
+            (to-keeps (graphOf r) u x b a c (stateOf m) Ordered (λ j. address-length _ _) keep-ordered w (f .ordered) i);
         some = f .some;
         bounded = f .bounded;
-        limited = f .limited;
       }
 
-      pub going-step : (m″ : Memory) (j : ℕ) → leb (lengthOf r i) b ≡ true → Done m′ m″ (stepOf r limit i b a c m′) → length (m″ .out) ≡ length (m′ .out) → length (m″ .lives) ≡ length (m′ .lives)
+      pub going-step : (m″ : Memory) (j : ℕ) → leb (lengthOf r i) b ≡ true → Done m′ m″ (stepOf r i b a c m′) → length (m″ .out) ≡ length (m′ .out) → length (m″ .lives) ≡ length (m′ .lives)
           → j ≡ getD (m″ .next) i 0 → Going m″ j
       going-step m″ j l d lo ll ej =
           going m″ j (d .next ∙ v .next) (d .prev ∙ v .prev)
-          (d .state ∙ ap (λ (w : List ℕ). stepped (graphOf r) limit w i b a c (stateOf m′)) same-unused ∙ ap (stepped (graphOf r) limit u i b a c) at-i
-          ∙ sym (to-step (graphOf r) limit u x b a c (stateOf m) i (listed-fits r u x b i (v .listed li) l)))
+          (d .state ∙ ap (λ (w : List ℕ). stepped (graphOf r) w i b a c (stateOf m′)) same-unused ∙ ap (stepped (graphOf r) u i b a c) at-i
+          ∙ sym (to-step (graphOf r) u x b a c (stateOf m) i (listed-fits r u x b i (v .listed li) l)))
           (d .places) (subst (λ (w : ℕ). getD (m″ .figures) 0 0 * 16 ≤ w) (v .out) (d .room)) (lo ∙ v .out) (ll ∙ v .lives) ej
 
-      -- past the limit the rest changes nothing
-      pub going-over : limit < m′ .work → Done m m′ (searchOf r limit x b a c m)
+      -- where no chain may be counted any more the rest changes nothing
+      pub going-over : m′ .left ≡ 0 → Done m m′ (searchOf r x b a c m)
       going-over h = record {
         next = v .next;
         prev = v .prev;
-        state = at-i ∙ sym (to-end (graphOf r) limit u x b a c (stateOf m) i (omega arith) (subst (λ (w : State). limit < w .0) at-i h));
+        state = at-i ∙ sym (to-end (graphOf r) u x b a c (stateOf m) i (omega arith) (sym (ap (λ (w : State). w .0) at-i) ∙ h));
         places = v .places;
         room = v .room;
       }
 
-    pub going-end : (m′ : Memory) (i : ℕ) → Going m′ i → n ≤ i → Done m m′ (searchOf r limit x b a c m)
+    pub going-end : (m′ : Memory) (i : ℕ) → Going m′ i → n ≤ i → Done m m′ (searchOf r x b a c m)
     going-end m′ i v l =
         let e : min i n ≡ n = omega arith in
         record {
           next = v .next;
           prev = v .prev;
-          state = v .state ∙ ap to e ∙ to-all (graphOf r) limit u x b a c (stateOf m);
+          state = v .state ∙ ap to e ∙ to-all (graphOf r) u x b a c (stateOf m);
           places = v .places;
           room = v .room;
         }

@@ -1,5 +1,5 @@
 -- The unused records as one circular list a name. Node j, below the number n of records, is the record j; node n + x is both ends of the list of x. Assumes nothing.
-use Prim.Native.Nat.{ℕ, zero, suc, _+_, _*_, _^_, _≤_, _<_}
+use Prim.Native.Nat.{ℕ, zero, suc, _+_, _*_, _≤_, _<_}
 use mathlib.Core.Path.{_≡_}
 use mathlib.Core.Bool.{Bool, true, false, _&&_}
 use mathlib.Core.List.{List, [], _∷_}
@@ -9,12 +9,9 @@ use Rattle.octets.specs.Octets.{blank}
 use Rattle.chains.specs.Lists.{pick}
 use Rattle.chains.specs.Graph.{maxTtl}
 use Rattle.rows.specs.Rows.{maxFigures, kept, Ordered}
-use Rattle.search.specs.Search.{Records, targetOf, lengthOf, ttlOf, graphOf, State, searched, stepped}
+use Rattle.search.specs.Search.{maxRecords, Records, targetOf, lengthOf, ttlOf, graphOf, State, searched, stepped}
 
--- how many records, names and nodes there may be
-abbrev pub maxRecords : ℕ
-maxRecords = 1024
-
+-- how many names and nodes there may be
 abbrev pub maxNames : ℕ
 maxNames = 2304
 
@@ -79,33 +76,33 @@ pub record Fresh (owners next prev : List ℕ) : Type 0 where
   pub linked : Linked owners (blank (length owners)) next prev
   pub nodes : length next ≡ maxNodes
 
--- what a search is lent and changes, and the work so far
+-- what a search is lent and changes, and how many chains may still be counted
 pub record Memory : Type 0 where
   pub next : List ℕ
   pub prev : List ℕ
   pub out : List ℕ
   pub lives : List ℕ
   pub figures : List ℕ
-  pub work : ℕ
+  pub left : ℕ
 
 abbrev pub memory : List ℕ → List ℕ → List ℕ → List ℕ → List ℕ → ℕ → Memory
-memory next prev out lives figures work = record { next = next; prev = prev; out = out; lives = lives; figures = figures; work = work }
+memory next prev out lives figures left = record { next = next; prev = prev; out = out; lives = lives; figures = figures; left = left }
 
 abbrev pub stateOf : Memory → State
-stateOf m = (m .work, kept (m .out) (m .lives) (m .figures))
+stateOf m = (m .left, kept (m .out) (m .lives) (m .figures))
 
 abbrev pub unusedOf : Records → Memory → List ℕ
 unusedOf r m = marksOf (length (r .owners)) (m .next) (m .prev)
 
 -- the state after the search, and after the step
-abbrev pub searchOf : Records → ℕ → ℕ → ℕ → List ℕ → ℕ → Memory → State
-searchOf r limit x b a c m = searched (graphOf r) limit (unusedOf r m) x b a c (stateOf m)
+abbrev pub searchOf : Records → ℕ → ℕ → List ℕ → ℕ → Memory → State
+searchOf r x b a c m = searched (graphOf r) (unusedOf r m) x b a c (stateOf m)
 
-abbrev pub stepOf : Records → ℕ → ℕ → ℕ → List ℕ → ℕ → Memory → State
-stepOf r limit i b a c m = stepped (graphOf r) limit (unusedOf r m) i b a c (stateOf m)
+abbrev pub stepOf : Records → ℕ → ℕ → List ℕ → ℕ → Memory → State
+stepOf r i b a c m = stepped (graphOf r) (unusedOf r m) i b a c (stateOf m)
 
 -- what a search works on
-pub record Fit (r : Records) (m : Memory) (bound limit : ℕ) : Type 0 where
+pub record Fit (r : Records) (m : Memory) (bound : ℕ) : Type 0 where
   pub numbered : Numbered r
   pub nodes : length (m .next) ≡ maxNodes
   pub linked : Linked (r .owners) (unusedOf r m) (m .next) (m .prev)
@@ -115,7 +112,6 @@ pub record Fit (r : Records) (m : Memory) (bound limit : ℕ) : Type 0 where
   pub ordered : Ordered (kept (m .out) (m .lives) (m .figures))
   pub some : 0 < bound
   pub bounded : bound ≤ 128
-  pub limited : limit < 2 ^ 32
 
 -- what it leaves: the links as they were, and the state that is expected
 pub record Done (m m′ : Memory) (s : State) : Type 0 where

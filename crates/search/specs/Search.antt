@@ -1,8 +1,8 @@
 -- What a search does: it visits the chains of a name in their order, counts them, and keeps what the complete ones spell (01, Chains), with
 -- the least TTL of their records (T-01). Assumes nothing.
-use Prim.Native.Nat.{ℕ, _+_, _*_, _/_, _%_}
+use Prim.Native.Nat.{ℕ, _+_, _-_, _*_, _/_, _%_}
 use mathlib.Core.List.{List, [], _∷_}
-use lib.Dec.{leb, eqb}
+use lib.Dec.{eqb}
 use lib.ListN.{length, getD, set}
 use Rattle.chains.specs.Lists.{pick}
 use Rattle.chains.specs.Graph.{Graph}
@@ -26,25 +26,31 @@ lengthIn head = head / 65536 % 256
 unfoldable pub ttlIn : ℕ → ℕ
 ttlIn head = head / 16777216 % 4294967296
 
--- the records as arrays have them, with numbers for names: the owner, the head and the two halves of the address of each
+-- how many records there may be
+abbrev pub maxRecords : ℕ
+maxRecords = 1024
+
+-- the records as arrays have them, with numbers for names: the owner of each, and their fields, all heads first, then the first halves of all
+-- addresses, then the last ones, each with room for all records
 pub record Records : Type 0 where
   pub owners : List ℕ
-  pub heads : List ℕ
-  pub highs : List ℕ
-  pub lows : List ℕ
+  pub fields : List ℕ
 
-abbrev pub records : List ℕ → List ℕ → List ℕ → List ℕ → Records
-records owners heads highs lows = record { owners = owners; heads = heads; highs = highs; lows = lows }
+abbrev pub records : List ℕ → List ℕ → Records
+records owners fields = record { owners = owners; fields = fields }
 
 -- of the record at i
 abbrev pub targetOf : Records → ℕ → ℕ
-targetOf r i = targetIn (getD (r .heads) i 0)
+targetOf r i = targetIn (getD (r .fields) i 0)
 
 abbrev pub lengthOf : Records → ℕ → ℕ
-lengthOf r i = lengthIn (getD (r .heads) i 0)
+lengthOf r i = lengthIn (getD (r .fields) i 0)
 
 abbrev pub ttlOf : Records → ℕ → ℕ
-ttlOf r i = ttlIn (getD (r .heads) i 0)
+ttlOf r i = ttlIn (getD (r .fields) i 0)
+
+abbrev pub addressIn : List ℕ → ℕ → List ℕ
+addressIn fields i = addressOf (getD fields (maxRecords + i) 0) (getD fields (2 * maxRecords + i) 0)
 
 -- as a graph
 abbrev pub graphOf : Records → Graph ℕ
@@ -53,19 +59,19 @@ graphOf r = record {
   owns = λ i x. eqb (getD (r .owners) i 0) x;
   target = targetOf r;
   len = lengthOf r;
-  addr = λ i. addressOf (getD (r .highs) i 0) (getD (r .lows) i 0);
+  addr = addressIn (r .fields);
   ttl = ttlOf r;
 }
 
--- the work, and what is kept
+-- how many chains may still be counted, and what is kept
 abbrev pub State : Type 0
 State = ℕ × Kept
 
-module _ {N : Type 0} (g : Graph N) (limit : ℕ) where
-  -- a chain is counted while the work is within the limit, and what it spells is kept where it is complete; b bits are open before it, a has
-  -- the others, and c is the least TTL so far
+module _ {N : Type 0} (g : Graph N) where
+  -- a chain is counted while one more may be, and what it spells is kept where it is complete; b bits are open before it, a has the others, and
+  -- c is the least TTL so far
   unfoldable pub visit : ℕ → List ℕ → ℕ → State → List ℕ → State
-  visit b a c s p = pick (leb (s .0) limit) (s .0 + 1, pick (eqb (lastLength g b p) 0) (keepIn (spell g b a p) (leastTtl g c p) (s .1)) (s .1)) s
+  visit b a c s p = pick (eqb (s .0) 0) s (s .0 - 1, pick (eqb (lastLength g b p) 0) (keepIn (spell g b a p) (leastTtl g c p) (s .1)) (s .1))
 
   unfoldable pub run : ℕ → List ℕ → ℕ → State → List (List ℕ) → State
   run b a c s [] = s

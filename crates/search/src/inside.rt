@@ -6,8 +6,8 @@ ghost use Rattle.octets.specs.Octets.{blank};
 ghost use Rattle.octets.specs.Answers.{refusal};
 ghost use Rattle.address.specs.Address.{joinOf};
 ghost use Rattle.rows.specs.Halves.{addressOf};
-ghost use Rattle.search.specs.Search.{headOf, targetIn, lengthIn, ttlIn, records, graphOf};
-ghost use Rattle.search.specs.Links.{maxRecords, maxNames, Numbered, memory, unusedOf, searchOf, stepOf, Fit, Done};
+ghost use Rattle.search.specs.Search.{maxRecords, headOf, targetIn, lengthIn, ttlIn, records, addressIn, graphOf};
+ghost use Rattle.search.specs.Links.{maxNames, Numbered, memory, unusedOf, searchOf, stepOf, Fit, Done};
 ghost use Rattle.search.specs.Answers.{foundOf, writtenOf, lastingOf};
 use crate::links;
 use rows::inside::FIGURES;
@@ -18,6 +18,13 @@ pub const RECORDS: usize = 1024;
 pub const NAMES: usize = 2304;
 
 pub const NODES: usize = RECORDS + NAMES;
+
+// The fields of the records, all in one array (specs/Search): the heads, then from these places on the first and the last halves of addresses.
+pub const FIELDS: usize = 3 * RECORDS;
+
+pub const HIGHS: usize = RECORDS;
+
+pub const LOWS: usize = 2 * RECORDS;
 
 // The greatest TTL: a chain of no records has it.
 const MAX_TTL: u32 = 2147483647;
@@ -37,19 +44,12 @@ fn mixed(high: u64, low: u64, k: u8) -> u64
 }
 
 // The record's bits before `bound`, then those of the address so far.
-fn joined(
-    highs: &[u64; RECORDS],
-    lows: &[u64; RECORDS],
-    i: usize,
-    high: u64,
-    low: u64,
-    bound: u8,
-) -> Halves
+fn joined(fields: &[u64; FIELDS], i: usize, high: u64, low: u64, bound: u8) -> Halves
     requires { ⌜ i < maxRecords ⌝ }
     requires { ⌜ (0 < bound) × (bound ≤ 128) ⌝ }
-    ensures { λ r. ⌜ addressOf (r .high) (r .low) ≡ joinOf (addressOf (getD (now (highs .entry)) i 0) (getD (now (lows .entry)) i 0)) (addressOf high low) bound ⌝ }
+    ensures { λ r. ⌜ addressOf (r .high) (r .low) ≡ joinOf (addressIn (now (fields .entry)) i) (addressOf high low) bound ⌝ }
 {
-    let h = highs[i];
+    let h = fields[HIGHS + i];
     if bound <= 64 {
         return Halves {
             high: mixed(h, high, 64 - bound),
@@ -58,7 +58,7 @@ fn joined(
     }
     Halves {
         high: h,
-        low: mixed(lows[i], low, 128 - bound),
+        low: mixed(fields[LOWS + i], low, 128 - bound),
     }
 }
 
@@ -101,9 +101,7 @@ fn lesser(a: u32, b: u32) -> u32
 // Into the record i, which is unused: it is out of its list while the search goes on from it.
 fn step(
     owners: &[u16],
-    heads: &[u64; RECORDS],
-    highs: &[u64; RECORDS],
-    lows: &[u64; RECORDS],
+    fields: &[u64; FIELDS],
     i: usize,
     bound: u8,
     high: u64,
@@ -111,40 +109,37 @@ fn step(
     ttl: u32,
     next: &mut [u16; NODES],
     prev: &mut [u16; NODES],
-    limit: u64,
     out: &mut [u8],
     lives: &mut [u32],
     figures: &mut [usize; FIGURES],
-    work: u64,
+    left: u64,
 ) -> u64
-    requires { ⌜ Fit (records (now owners) (now heads) (now highs) (now lows)) (memory (now next) (now prev) (now out) (now lives) (now figures) work) bound limit ⌝ }
-    requires { ⌜ (i < length (now owners)) × (getD (unusedOf (records (now owners) (now heads) (now highs) (now lows)) (memory (now next) (now prev) (now out) (now lives) (now figures) work)) i 0 ≡ 0) × (lengthIn (getD (now heads) i 0) ≤ bound) × (work ≤ limit) ⌝ }
-    ensures { λ r. ⌜ Done (memory (now (next .entry)) (now (prev .entry)) (now (out .entry)) (now (lives .entry)) (now (figures .entry)) work) (memory (now (next .exit)) (now (prev .exit)) (now (out .exit)) (now (lives .exit)) (now (figures .exit)) r) (stepOf (records (now (owners .entry)) (now (heads .entry)) (now (highs .entry)) (now (lows .entry))) limit i bound (addressOf high low) ttl (memory (now (next .entry)) (now (prev .entry)) (now (out .entry)) (now (lives .entry)) (now (figures .entry)) work)) ⌝ }
+    requires { ⌜ Fit (records (now owners) (now fields)) (memory (now next) (now prev) (now out) (now lives) (now figures) left) bound ⌝ }
+    requires { ⌜ (i < length (now owners)) × (getD (unusedOf (records (now owners) (now fields)) (memory (now next) (now prev) (now out) (now lives) (now figures) left)) i 0 ≡ 0) × (lengthIn (getD (now fields) i 0) ≤ bound) × (0 < left) ⌝ }
+    ensures { λ r. ⌜ Done (memory (now (next .entry)) (now (prev .entry)) (now (out .entry)) (now (lives .entry)) (now (figures .entry)) left) (memory (now (next .exit)) (now (prev .exit)) (now (out .exit)) (now (lives .exit)) (now (figures .exit)) r) (stepOf (records (now (owners .entry)) (now (fields .entry))) i bound (addressOf high low) ttl (memory (now (next .entry)) (now (prev .entry)) (now (out .entry)) (now (lives .entry)) (now (figures .entry)) left)) ⌝ }
 {
-    let record = heads[i];
+    let record = fields[i];
     let length = length_in(record);
-    let a = joined(highs, lows, i, high, low, bound);
+    let a = joined(fields, i, high, low, bound);
     let h = a.high;
     let l = a.low;
     let t = lesser(ttl, ttl_in(record));
-    let w = work + 1;
+    let rest = left - 1;
     if length == 0 {
         rows::inside::keep(out, lives, figures, h, l, t);
-        return w;
+        return rest;
     }
     let x = target_in(record);
     let p = octets::numbers::wide(prev[i]);
     let q = octets::numbers::wide(next[i]);
     links::unlink(p, q, next, prev);
-    let mut r = w;
+    let mut r = rest;
     let head = owners.len() + x;
     let first = octets::numbers::wide(next[head]);
     if first < owners.len() {
         r = search(
             owners,
-            heads,
-            highs,
-            lows,
+            fields,
             x,
             first,
             length,
@@ -153,11 +148,10 @@ fn step(
             t,
             next,
             prev,
-            limit,
             out,
             lives,
             figures,
-            w,
+            rest,
         );
     }
     links::relink(i, p, q, next, prev);
@@ -167,9 +161,7 @@ fn step(
 // Over the unused records of the name x, from the first of them on.
 fn search(
     owners: &[u16],
-    heads: &[u64; RECORDS],
-    highs: &[u64; RECORDS],
-    lows: &[u64; RECORDS],
+    fields: &[u64; FIELDS],
     x: usize,
     first: usize,
     bound: u8,
@@ -178,28 +170,25 @@ fn search(
     ttl: u32,
     next: &mut [u16; NODES],
     prev: &mut [u16; NODES],
-    limit: u64,
     out: &mut [u8],
     lives: &mut [u32],
     figures: &mut [usize; FIGURES],
-    work: u64,
+    left: u64,
 ) -> u64
-    requires { ⌜ Fit (records (now owners) (now heads) (now highs) (now lows)) (memory (now next) (now prev) (now out) (now lives) (now figures) work) bound limit ⌝ }
+    requires { ⌜ Fit (records (now owners) (now fields)) (memory (now next) (now prev) (now out) (now lives) (now figures) left) bound ⌝ }
     requires { ⌜ (x < maxNames) × (first ≡ getD (now next) (length (now owners) + x) 0) ⌝ }
-    ensures { λ r. ⌜ Done (memory (now (next .entry)) (now (prev .entry)) (now (out .entry)) (now (lives .entry)) (now (figures .entry)) work) (memory (now (next .exit)) (now (prev .exit)) (now (out .exit)) (now (lives .exit)) (now (figures .exit)) r) (searchOf (records (now (owners .entry)) (now (heads .entry)) (now (highs .entry)) (now (lows .entry))) limit x bound (addressOf high low) ttl (memory (now (next .entry)) (now (prev .entry)) (now (out .entry)) (now (lives .entry)) (now (figures .entry)) work)) ⌝ }
+    ensures { λ r. ⌜ Done (memory (now (next .entry)) (now (prev .entry)) (now (out .entry)) (now (lives .entry)) (now (figures .entry)) left) (memory (now (next .exit)) (now (prev .exit)) (now (out .exit)) (now (lives .exit)) (now (figures .exit)) r) (searchOf (records (now (owners .entry)) (now (fields .entry))) x bound (addressOf high low) ttl (memory (now (next .entry)) (now (prev .entry)) (now (out .entry)) (now (lives .entry)) (now (figures .entry)) left)) ⌝ }
 {
-    let mut s = work;
+    let mut s = left;
     let mut i = first;
     while i < owners.len() {
-        if limit < s {
+        if s == 0 {
             return s;
         }
-        if length_in(heads[i]) <= bound {
+        if length_in(fields[i]) <= bound {
             s = step(
                 owners,
-                heads,
-                highs,
-                lows,
+                fields,
                 i,
                 bound,
                 high,
@@ -207,7 +196,6 @@ fn search(
                 ttl,
                 next,
                 prev,
-                limit,
                 out,
                 lives,
                 figures,
@@ -231,32 +219,28 @@ fn refuse(number: u8, out: &mut [u8], lives: &mut [u32]) -> octets::Answer
 // The addresses of the name x and their lifetimes, or refusal 6 or 7, once the records and both lists are in order; they come as zeros.
 pub fn find(
     owners: &[u16],
-    heads: &[u64; RECORDS],
-    highs: &[u64; RECORDS],
-    lows: &[u64; RECORDS],
+    fields: &[u64; FIELDS],
     x: usize,
     limit: u32,
     out: &mut [u8],
     lives: &mut [u32],
 ) -> octets::Answer
-    requires { ⌜ Numbered (records (now owners) (now heads) (now highs) (now lows)) × (x < maxNames) ⌝ }
+    requires { ⌜ Numbered (records (now owners) (now fields)) × (x < maxNames) ⌝ }
     requires { ⌜ (length (now out) % 16 ≡ 0) × (now out ≡ blank (length (now out))) × (length (now lives) * 16 ≡ length (now out)) × (now lives ≡ blank (length (now lives))) ⌝ }
-    ensures { λ r. ⌜ r ≡ foundOf (graphOf (records (now (owners .entry)) (now (heads .entry)) (now (highs .entry)) (now (lows .entry)))) x limit (length (now (out .entry))) ⌝ }
-    ensures { λ _. ⌜ now (out .exit) ≡ writtenOf (graphOf (records (now (owners .entry)) (now (heads .entry)) (now (highs .entry)) (now (lows .entry)))) x limit (length (now (out .entry))) ⌝ }
-    ensures { λ _. ⌜ now (lives .exit) ≡ lastingOf (graphOf (records (now (owners .entry)) (now (heads .entry)) (now (highs .entry)) (now (lows .entry)))) x limit (length (now (out .entry))) ⌝ }
+    ensures { λ r. ⌜ r ≡ foundOf (graphOf (records (now (owners .entry)) (now (fields .entry)))) x limit (length (now (out .entry))) ⌝ }
+    ensures { λ _. ⌜ now (out .exit) ≡ writtenOf (graphOf (records (now (owners .entry)) (now (fields .entry)))) x limit (length (now (out .entry))) ⌝ }
+    ensures { λ _. ⌜ now (lives .exit) ≡ lastingOf (graphOf (records (now (owners .entry)) (now (fields .entry)))) x limit (length (now (out .entry))) ⌝ }
 {
     let mut next = [0u16; NODES];
     let mut prev = [0u16; NODES];
     links::link(owners, &mut next, &mut prev);
     let mut figures = [0usize; FIGURES];
-    let most = limit as u64;
+    let most = limit as u64 + 1;
     let head = owners.len() + x;
     let first = octets::numbers::wide(next[head]);
-    let work = search(
+    let left = search(
         owners,
-        heads,
-        highs,
-        lows,
+        fields,
         x,
         first,
         128,
@@ -265,22 +249,21 @@ pub fn find(
         MAX_TTL,
         &mut next,
         &mut prev,
-        most,
         out,
         lives,
         &mut figures,
-        0,
+        most,
     );
     let count = figures[0];
     let full = figures[1];
-    if most < work {
+    if left == 0 {
         return refuse(6, out, lives);
     }
     if full == 1 {
         return refuse(7, out, lives);
     }
     let found = count as u32;
-    let spent = work as u32;
+    let spent = (most - left) as u32;
     octets::Answer {
         number: 0,
         count: found,

@@ -11,7 +11,7 @@ use Rattle.plan.proofs.OrderLaws.{order-count}
 use Rattle.numbering.specs.Numbers.{numberIn, namesOf, ownNumber, targetNumber}
 use Rattle.plan.specs.Graph.{graphOf}
 use Rattle.numbering.proofs.NamesLaws.{filled-at}
-use Rattle.forward.specs.Gather.{noOwner, searchOwner, searchHead}
+use Rattle.forward.specs.Gather.{noOwner, searchOwner}
 use Rattle.search.specs.Search as search′
 use Rattle.search.specs.Search.{headOf}
 use Rattle.search.specs.Answers.{numberOf, answerOf, outputOf, livesOf}
@@ -41,50 +41,37 @@ set-owners-requires c κs =
     let k : length (c .before .before .before .number .last .1 .1 .0) ≡ 1024 = c .before .before .before .number .kept .1 .1 .0 in
     omega arith
 
-slice-aggregate-set-heads : tie.Need-slice-aggregate-set-heads
-slice-aggregate-set-heads c = search needs
+slice-aggregate-set-fields : tie.Need-slice-aggregate-set-fields
+slice-aggregate-set-fields c = search needs
 
-slice-aggregate-set-heads-2 : tie.Need-slice-aggregate-set-heads-2
-slice-aggregate-set-heads-2 c = search needs
-
-set-heads-requires : tie.Need-set-heads-requires
-set-heads-requires c κs =
+set-fields-requires : tie.Need-set-fields-requires
+set-fields-requires c κs =
     let n = order-count (c .before .before .before .before .before .before .before .before .before .before .before .before .before .before .args .table .now) (c .before .before .before .before .before .before .before .before .before .before .before .before .before .before .pre .0 .0) in
     let k : length (c .before .before .before .before .before .before .before .number .last .1 .1 .1 .0) ≡ 1024 = c .before .before .before .before .before .before .before .number .kept .1 .1 .1 .0 in
-    (omega arith, n)
-
-slice-aggregate-set-halves : tie.Need-slice-aggregate-set-halves
-slice-aggregate-set-halves c = search needs
-
-slice-aggregate-set-halves-2 : tie.Need-slice-aggregate-set-halves-2
-slice-aggregate-set-halves-2 c = search needs
-
-set-halves-requires : tie.Need-set-halves-requires
-set-halves-requires c κs = let n = order-count (c .before .before .before .before .before .before .before .before .before .before .before .before .before .before .before .before .before .before .args .table .now) (c .before .before .before .before .before .before .before .before .before .before .before .before .before .before .before .before .before .before .pre .0 .0) in (n, n)
+    (omega arith, n, search needs)
 
 count-requires : tie.Need-count-requires
 count-requires c κs = search needs
 
 -- what the arrays hold before the search
-filled-up : (c : tie.After-count) → Filled (c .before .before .before .before .before .before .before .before .before .before .before .before .before .before .before .before .before .before .before .before .before .before .args .table .now) (c .before .before .before .before .before .before .before .before .before .before .before .set-owners .last .1 .0) (c .before .before .before .before .before .before .before .set-heads .last .1 .1 .0) (c .before .before .before .set-halves .last .1 .0) (c .before .before .before .set-halves .last .1 .1 .0)
+filled-up : (c : tie.After-count) → Filled (c .before .before .before .before .before .before .before .before .before .before .before .before .before .before .before .before .args .table .now) (c .before .before .before .before .before .set-owners .last .1 .0) (c .before .set-fields .last .1 .1 .0)
 filled-up c =
-    let t = c .before .before .before .before .before .before .before .before .before .before .before .before .before .before .before .before .before .before .before .before .before .before .args .table .now in
-    let o = c .before .before .before .before .before .before .before .before .before .before .before .before .before .before .before .before .before .before .before .before .before .before .pre .0 .0 in
+    let t = c .before .before .before .before .before .before .before .before .before .before .before .before .before .before .before .before .args .table .now in
+    let o = c .before .before .before .before .before .before .before .before .before .before .before .before .before .before .before .before .pre .0 .0 in
     let n = order-count t o in
-    let numbers = c .before .before .before .before .before .before .before .before .before .before .before .before .before .before .before .number in
+    let numbers = c .before .before .before .before .before .before .before .before .before .number in
     let k : length (numbers .last .1 .1 .0) ≡ 1024 = numbers .kept .1 .1 .0 in
-    let l : length (c .before .before .before .before .before .before .before .before .before .before .before .set-owners .last .1 .0) ≡ length (numbers .last .1 .1 .0) = c .before .before .before .before .before .before .before .before .before .before .before .set-owners .kept .1 .0 in
+    let l : length (c .before .before .before .before .before .set-owners .last .1 .0) ≡ length (numbers .last .1 .1 .0) = c .before .before .before .before .before .set-owners .kept .1 .0 in
     record {
       owner = λ i h.
-          ap (λ (l : List ℕ). getD l i 0) (c .before .before .before .before .before .before .before .before .before .before .before .set-owners .ensures)
+          ap (λ (l : List ℕ). getD l i 0) (c .before .before .before .before .before .set-owners .ensures)
           ∙ filled-at (searchOwner t (numbers .last .1 .1 .0)) (numbers .last .1 .1 .0) (countOf t) i h (omega arith)
           ∙ ap (λ (m : ℕ). pick (isA6 (recordAt t i)) m noOwner)
           (ap (λ (l : List ℕ). getD l i 0) (numbers .ensures .1 .0) ∙ filled-at (ownNumber t) _ (countOf t) i h n);
       head = λ i h.
-          ap (λ (l : List ℕ). getD l i 0) (c .before .before .before .before .before .before .before .set-heads .ensures)
-          ∙ filled-at (searchHead t (numbers .last .1 .1 .1 .0)) _ (countOf t) i h n
+          c .before .set-fields .ensures .head i h
           ∙ ap (λ (m : ℕ). headOf m (prefixAt t i) (ttlAt t i)) (ap (λ (l : List ℕ). getD l i 0) (numbers .ensures .1 .1) ∙ filled-at (targetNumber t) _ (countOf t) i h n);
-      halved = c .before .before .before .set-halves .ensures;
+      address = c .before .set-fields .ensures .address;
       owners-long = omega arith;
     }
 
@@ -92,17 +79,17 @@ array-share-prefix-owners : tie.Need-array-share-prefix-owners
 array-share-prefix-owners c = rw (c .count .ensures) (filled-up c .owners-long)
 
 slice-aggregate-find : tie.Need-slice-aggregate-find
-slice-aggregate-find c = sym (length-take-le (c .before .count .result) (c .before .before .before .before .before .before .before .before .before .before .before .before .set-owners .last .1 .0) (rw (c .before .count .ensures) (filled-up (c .before) .owners-long)))
+slice-aggregate-find c = sym (length-take-le (c .before .count .result) (c .before .before .before .before .before .before .set-owners .last .1 .0) (rw (c .before .count .ensures) (filled-up (c .before) .owners-long)))
 
 find-requires : tie.Need-find-requires
 find-requires c κs =
-    let t = c .before .before .before .before .before .before .before .before .before .before .before .before .before .before .before .before .before .before .before .before .before .before .before .before .before .before .before .before .args .table .now in
-    let o = c .before .before .before .before .before .before .before .before .before .before .before .before .before .before .before .before .before .before .before .before .before .before .before .before .before .before .before .before .pre .0 .0 in (
+    let t = c .before .before .before .before .before .before .before .before .before .before .before .before .before .before .before .before .before .before .before .before .args .table .now in
+    let o = c .before .before .before .before .before .before .before .before .before .before .before .before .before .before .before .before .before .before .before .before .pre .0 .0 in (
       (
-        rw (c .before .before .before .before .before .before .count .ensures) (read-numbered t _ _ _ _ o (filled-up (c .before .before .before .before .before .before))),
-        rw (c .before .before .before .before .before .before .before .before .before .before .before .before .before .before .before .before .before .before .before .before .before .number .ensures .0) (number-below t _ _ _ _ o (filled-up (c .before .before .before .before .before .before)) (c .before .before .before .before .before .before .before .before .before .before .before .before .before .before .before .before .before .before .before .before .before .before .before .before .before .before .before .before .args .name .now)),
+        rw (c .before .before .before .before .count .ensures) (read-numbered t _ _ o (filled-up (c .before .before .before .before))),
+        rw (c .before .before .before .before .before .before .before .before .before .before .before .before .before .number .ensures .0) (number-below t _ _ o (filled-up (c .before .before .before .before)) (c .before .before .before .before .before .before .before .before .before .before .before .before .before .before .before .before .before .before .before .before .args .name .now)),
       ),
-      c .before .before .before .before .before .before .before .before .before .before .before .before .before .before .before .before .before .before .before .before .before .before .before .before .before .before .before .before .pre .1,
+      c .before .before .before .before .before .before .before .before .before .before .before .before .before .before .before .before .before .before .before .before .pre .1,
     )
 
 same-length : tie.Need-same-length
@@ -113,24 +100,24 @@ same-length-2 c = search needs
 
 returns : tie.Need-returns
 returns c =
-    let t = c .before .before .before .before .before .before .before .before .before .before .before .before .before .before .before .before .before .before .before .before .before .before .before .before .before .before .before .before .before .before .before .before .before .args .table .now in
-    let o = c .before .before .before .before .before .before .before .before .before .before .before .before .before .before .before .before .before .before .before .before .before .before .before .before .before .before .before .before .before .before .before .before .before .pre .0 .0 in
-    let x = c .before .before .before .before .before .before .before .before .before .before .before .before .before .before .before .before .before .before .before .before .before .before .before .before .before .before .before .before .before .before .before .before .before .args .name .now in
-    let limit = c .before .before .before .before .before .before .before .before .before .before .before .before .before .before .before .before .before .before .before .before .before .before .before .before .before .before .before .before .before .before .before .before .before .args .limit in
-    let size = length (c .before .before .before .before .before .before .before .before .before .before .before .before .before .before .before .before .before .before .before .before .before .before .before .before .before .before .before .before .before .before .before .before .before .args .out .now) in
-    let full = filled-up (c .before .before .before .before .before .before .before .before .before .before .before) in
+    let t = c .before .before .before .before .before .before .before .before .before .before .before .before .before .before .before .before .before .before .before .before .before .before .before .before .before .args .table .now in
+    let o = c .before .before .before .before .before .before .before .before .before .before .before .before .before .before .before .before .before .before .before .before .before .before .before .before .before .pre .0 .0 in
+    let x = c .before .before .before .before .before .before .before .before .before .before .before .before .before .before .before .before .before .before .before .before .before .before .before .before .before .args .name .now in
+    let limit = c .before .before .before .before .before .before .before .before .before .before .before .before .before .before .before .before .before .before .before .before .before .before .before .before .before .args .limit in
+    let size = length (c .before .before .before .before .before .before .before .before .before .before .before .before .before .before .before .before .before .before .before .before .before .before .before .before .before .args .out .now) in
+    let full = filled-up (c .before .before .before .before .before .before .before .before .before) in
     let y = numberIn (namesOf t) x in
-    let h = search′.graphOf (search′.records (take (countOf t) (c .before .before .before .before .before .before .before .before .before .before .before .before .before .before .before .before .before .before .before .before .before .before .set-owners .last .1 .0)) (c .before .before .before .before .before .before .before .before .before .before .before .before .before .before .before .before .before .before .set-heads .last .1 .1 .0) (c .before .before .before .before .before .before .before .before .before .before .before .before .before .before .set-halves .last .1 .0) (c .before .before .before .before .before .before .before .before .before .before .before .before .before .before .set-halves .last .1 .1 .0)) in
-    let w = work-read t _ _ _ _ o full x in
-    let a = addresses-read t _ _ _ _ o full x in
+    let h = search′.graphOf (search′.records (take (countOf t) (c .before .before .before .before .before .before .before .before .before .before .before .before .before .before .set-owners .last .1 .0)) (c .before .before .before .before .before .before .before .before .before .before .set-fields .last .1 .1 .0)) in
+    let w = work-read t _ _ o full x in
+    let a = addresses-read t _ _ o full x in
     let found = c .before .before .before .before .find .ensures in
-    let turned = rw (c .before .before .before .before .before .before .before .before .before .before .before .count .ensures, c .before .before .before .before .before .before .before .before .before .before .before .before .before .before .before .before .before .before .before .before .before .before .before .before .before .before .number .ensures .0) at found in (
+    let turned = rw (c .before .before .before .before .before .before .before .before .before .count .ensures, c .before .before .before .before .before .before .before .before .before .before .before .before .before .before .before .before .before .before .number .ensures .0) at found in (
       turned .0 ∙ sym (answer-like (graphOf t) h x y w a (numberOf (graphOf t) x limit (size / 16)) ∙ ap (answerOf h y) (number-like (graphOf t) h x y w a limit (size / 16))),
       (
         turned .1 .0
             ∙ sym (output-like (graphOf t) h x y w a (numberOf (graphOf t) x limit (size / 16)) size ∙ ap (λ (k : ℕ). outputOf h y k size) (number-like (graphOf t) h x y w a limit (size / 16))),
         turned .1 .1
-            ∙ sym (lives-like (graphOf t) h x y w a (lifetime-read t _ _ _ _ o full x) (numberOf (graphOf t) x limit (size / 16)) (size / 16) ∙ ap (λ (k : ℕ). livesOf h y k (size / 16)) (number-like (graphOf t) h x y w a limit (size / 16))),
+            ∙ sym (lives-like (graphOf t) h x y w a (lifetime-read t _ _ o full x) (numberOf (graphOf t) x limit (size / 16)) (size / 16) ∙ ap (λ (k : ℕ). livesOf h y k (size / 16)) (number-like (graphOf t) h x y w a limit (size / 16))),
       ),
     )
 
@@ -143,12 +130,8 @@ look-spec =
     number-requires
     slice-aggregate-set-owners
     set-owners-requires
-    slice-aggregate-set-heads
-    slice-aggregate-set-heads-2
-    set-heads-requires
-    slice-aggregate-set-halves
-    slice-aggregate-set-halves-2
-    set-halves-requires
+    slice-aggregate-set-fields
+    set-fields-requires
     count-requires
     array-share-prefix-owners
     slice-aggregate-find

@@ -10,15 +10,15 @@ use Rattle.rows.proofs.inside.place.Statement.{statement}
 use Rattle.rows.proofs.inside.place.Tie as tie
 
 abbrev Inv-loop : tie.InvT-loop
-Inv-loop out a b high low from₀ to₀ from to = (from ≤ to) × (to ≤ b) × Seeking out (addressOf high low) (seek (b - a) out (addressOf high low) a b) from to
+Inv-loop out count high low from₀ to₀ from to = (from ≤ to) × (to ≤ count) × Seeking out (addressOf high low) (seek count out (addressOf high low) 0 count) from to
 
 abbrev μ-loop : tie.MeasureT-loop
-μ-loop out a b high low from₀ to₀ from to = to - from
+μ-loop out count high low from₀ to₀ from to = to - from
 
 loop-holds : tie.Need-loop-holds Inv-loop μ-loop
 loop-holds c =
     let a = c .before .args in
-    (omega arith, omega arith, seeking-start (a .out .now) (addressOf (a .high) (a .low)) (a .a) (a .b))
+    (omega arith, omega arith, seeking-start (a .out .now) (addressOf (a .high) (a .low)) (a .count))
 
 add-middle : tie.Need-add-middle Inv-loop μ-loop
 add-middle c = search needs

@@ -5,7 +5,8 @@ use mathlib.Core.Path.{_≡_, refl, ap, subst, _∙_}
 use native.Mathlib.Omega.{arith}
 use lib.ListN.{length, getD}
 use borrow.Author.Needs.{needs}
-use Rattle.search.specs.Links.{Linked, maxRecords, maxNodes}
+use Rattle.search.specs.Links.{Linked, maxNodes}
+use Rattle.search.specs.Search.{maxRecords}
 use Rattle.search.proofs.BuildLaws.{Chained, chained-none, chained-as, chained-all, last-node}
 use Rattle.search.proofs.links.link.Statement.{statement}
 use Rattle.search.proofs.links.link.Tie as tie
