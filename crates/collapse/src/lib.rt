@@ -332,8 +332,5 @@ fn joined_ttl(table: &[u8], i: usize, j: usize) -> u32
 {
     let own = plan::inside::ttl(table, i);
     let next = plan::inside::ttl(table, j);
-    if next < own {
-        return next;
-    }
-    own
+    octets::numbers::lesser(own, next)
 }

@@ -1,6 +1,6 @@
 // What only our own layers call: octets as numbers, and back; numbers as indices.
 ghost use mathlib.Core.Path.{_≡_};
-ghost use Prim.Native.Nat.{_+_, _*_, _^_, _≤_, _<_};
+ghost use Prim.Native.Nat.{_+_, _*_, _^_, _≤_, _<_, min};
 ghost use lib.ListN.{length, take, drop};
 ghost use lib.Seq.{paste};
 ghost use Rattle.octets.specs.Octets.{blank};
@@ -64,6 +64,16 @@ pub fn clear(list: &mut [u32])
         list[i] = 0;
         i += 1;
     }
+}
+
+// The lesser of two numbers.
+pub fn lesser(a: u32, b: u32) -> u32
+    ensures { λ r. ⌜ r ≡ min a b ⌝ }
+{
+    if b < a {
+        return b;
+    }
+    a
 }
 
 // A number of 16 bits as an index.

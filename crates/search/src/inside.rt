@@ -1,6 +1,6 @@
 // What only our own layers call: the search for the addresses of a numbered name.
 ghost use mathlib.Core.Path.{_≡_};
-ghost use Prim.Native.Nat.{_+_, _*_, _/_, _%_, _^_, _≤_, _<_, min};
+ghost use Prim.Native.Nat.{_+_, _*_, _/_, _%_, _^_, _≤_, _<_};
 ghost use lib.ListN.{length, getD};
 ghost use Rattle.octets.specs.Octets.{blank};
 ghost use Rattle.octets.specs.Answers.{refusal};
@@ -88,17 +88,8 @@ fn ttl_in(head: u64) -> u32
     (head / 16777216 % 4294967296) as u32
 }
 
-// The lesser of two TTLs.
-fn lesser(a: u32, b: u32) -> u32
-    ensures { λ r. ⌜ r ≡ min a b ⌝ }
-{
-    if b < a {
-        return b;
-    }
-    a
-}
-
-// Into the record i, which is unused: it is out of its list while the search goes on from it.
+// Into the record i, which is unused: it is out of its list while the search goes on from it. Of the chains that may still be counted, `left`,
+// it answers what is left.
 fn step(
     owners: &[u16],
     fields: &[u64; FIELDS],
@@ -118,24 +109,24 @@ fn step(
     requires { ⌜ (i < length (now owners)) × (getD (unusedOf (records (now owners) (now fields)) (memory (now next) (now prev) (now out) (now lives) (now figures) left)) i 0 ≡ 0) × (lengthIn (getD (now fields) i 0) ≤ bound) × (0 < left) ⌝ }
     ensures { λ r. ⌜ Done (memory (now (next .entry)) (now (prev .entry)) (now (out .entry)) (now (lives .entry)) (now (figures .entry)) left) (memory (now (next .exit)) (now (prev .exit)) (now (out .exit)) (now (lives .exit)) (now (figures .exit)) r) (stepOf (records (now (owners .entry)) (now (fields .entry))) i bound (addressOf high low) ttl (memory (now (next .entry)) (now (prev .entry)) (now (out .entry)) (now (lives .entry)) (now (figures .entry)) left)) ⌝ }
 {
-    let record = fields[i];
-    let length = length_in(record);
+    let head = fields[i];
+    let length = length_in(head);
     let a = joined(fields, i, high, low, bound);
     let h = a.high;
     let l = a.low;
-    let t = lesser(ttl, ttl_in(record));
+    let t = octets::numbers::lesser(ttl, ttl_in(head));
     let rest = left - 1;
     if length == 0 {
         rows::inside::keep(out, lives, figures, h, l, t);
         return rest;
     }
-    let x = target_in(record);
+    let x = target_in(head);
     let p = octets::numbers::wide(prev[i]);
     let q = octets::numbers::wide(next[i]);
     links::unlink(p, q, next, prev);
     let mut r = rest;
-    let head = owners.len() + x;
-    let first = octets::numbers::wide(next[head]);
+    let ends = owners.len() + x;
+    let first = octets::numbers::wide(next[ends]);
     if first < owners.len() {
         r = search(
             owners,
@@ -158,7 +149,7 @@ fn step(
     r
 }
 
-// Over the unused records of the name x, from the first of them on.
+// Over the unused records of the name x, from the first of them on; it answers how many chains are left to count, and ends where there are none.
 fn search(
     owners: &[u16],
     fields: &[u64; FIELDS],
@@ -236,8 +227,8 @@ pub fn find(
     links::link(owners, &mut next, &mut prev);
     let mut figures = [0usize; FIGURES];
     let most = limit as u64 + 1;
-    let head = owners.len() + x;
-    let first = octets::numbers::wide(next[head]);
+    let ends = owners.len() + x;
+    let first = octets::numbers::wide(next[ends]);
     let left = search(
         owners,
         fields,

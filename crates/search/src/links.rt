@@ -28,13 +28,13 @@ pub fn link(owners: &[u16], next: &mut [u16; NODES], prev: &mut [u16; NODES])
     let n = owners.len();
     let mut i: usize = 0;
     while i < n {
-        let head = n + octets::numbers::wide(owners[i]);
-        let last = prev[head];
+        let ends = n + octets::numbers::wide(owners[i]);
+        let last = prev[ends];
         let before = octets::numbers::wide(last);
         let node = i as u16;
         next[before] = node;
-        next[i] = head as u16;
-        prev[head] = node;
+        next[i] = ends as u16;
+        prev[ends] = node;
         prev[i] = last;
         i += 1;
     }

@@ -26,7 +26,7 @@ use Rattle.search.proofs.inside.joined.Reads as joined-reads
 use Rattle.search.proofs.inside.length_in.Reads as length-reads
 use Rattle.search.proofs.inside.ttl_in.Reads as ttl-reads
 use Rattle.search.proofs.inside.target_in.Reads as target-reads
-use Rattle.search.proofs.inside.lesser.Reads as lesser-reads
+use Rattle.octets.proofs.numbers.lesser.Reads as lesser-reads
 use Rattle.search.proofs.links.relink.Reads as relink-reads
 use Rattle.search.proofs.links.unlink.Reads as unlink-reads
 use Rattle.octets.proofs.numbers.wide.Reads as wide-reads
@@ -211,11 +211,11 @@ search-returns-2 t c =
     let here = memory (l .next) (l .prev) (l .out) (l .lives) (l .figures) (l .s) in
     going-end table (a .x) (a .bound) (addressOf (a .high) (a .low)) (a .ttl) start (f .linked) here (l .i) (l .inv) (c .loop-test .left)
 
-step-mul-record : (t : ℕ) → step-lts.Need-mul-record (step-claims t) (step-at t) step.Post
-step-mul-record t c = omega (arith, c .before .before .before .pre .1 .0 .numbered .owned .few, c .before .before .before .pre .1 .1 .0)
+step-mul-head : (t : ℕ) → step-lts.Need-mul-head (step-claims t) (step-at t) step.Post
+step-mul-head t c = omega (arith, c .before .before .before .pre .1 .0 .numbered .owned .few, c .before .before .before .pre .1 .1 .0)
 
-step-element-copy-out-record : (t : ℕ) → step-lts.Need-element-copy-out-record (step-claims t) (step-at t) step.Post
-step-element-copy-out-record t c = omega (arith, c .before .before .before .pre .1 .0 .numbered .owned .few, c .before .before .before .pre .1 .1 .0)
+step-element-copy-out-head : (t : ℕ) → step-lts.Need-element-copy-out-head (step-claims t) (step-at t) step.Post
+step-element-copy-out-head t c = omega (arith, c .before .before .before .pre .1 .0 .numbered .owned .few, c .before .before .before .pre .1 .1 .0)
 
 step-length-in-requires : (t : ℕ) → step-lts.Need-length-in-requires (step-claims t) (step-at t) step.Post
 step-length-in-requires t c κs = search needs
@@ -284,8 +284,8 @@ step-unlink-requires t c κs =
     let p = c .before .before .before .before .before .before .before .before .before .before .before .before .before .before .before .before .pre .1 in
     (p .0 .nodes, p .0 .linked .level ∙ p .0 .nodes, p-node table start (a .bound) (a .i) (p .0) (p .1 .0) (p .1 .1) (c .before .before .before .before .wide .result) (c .before .before .wide2 .result) (c .before .before .before .before .wide .ensures) (c .before .before .wide2 .ensures), q-node table start (a .bound) (a .i) (p .0) (p .1 .0) (p .1 .1) (c .before .before .before .before .wide .result) (c .before .before .wide2 .result) (c .before .before .before .before .wide .ensures) (c .before .before .wide2 .ensures))
 
-step-add-head : (t : ℕ) → step-lts.Need-add-head (step-claims t) (step-at t) step.Post
-step-add-head t c =
+step-add-ends : (t : ℕ) → step-lts.Need-add-ends (step-claims t) (step-at t) step.Post
+step-add-ends t c =
     let a = c .before .before .before .before .before .before .before .before .before .before .before .before .before .before .before .before .before .args in
     let p = c .before .before .before .before .before .before .before .before .before .before .before .before .before .before .before .before .before .pre .1 in
     omega (arith, c .before .before .before .before .before .before .before .target-in .ensures, p .0 .numbered .owned .few, p .0 .numbered .target (a .i) (p .1 .0) (omega (arith, c .before .before .before .before .before .before .before .before .if1 .left)))
@@ -408,8 +408,8 @@ pub +search+step-spec : {M : Type 1} → statement M
     λ t. step-lts.spec (step-claims t)
     (step-at t)
     step.Post
-    (step-mul-record t)
-    (step-element-copy-out-record t)
+    (step-mul-head t)
+    (step-element-copy-out-head t)
     (step-length-in-requires t)
     (step-joined-requires t)
     (step-ttl-in-requires t)
@@ -427,7 +427,7 @@ pub +search+step-spec : {M : Type 1} → statement M
     (step-element-copy-out-wide-2 t)
     (step-wide-requires-2 t)
     (step-unlink-requires t)
-    (step-add-head t)
+    (step-add-ends t)
     (step-mul-wide-3 t)
     (step-element-copy-out-wide-3 t)
     (step-wide-requires-3 t)

@@ -38,8 +38,8 @@ link-requires c κs = search needs
 add-most : tie.Need-add-most
 add-most c = search needs
 
-add-head : tie.Need-add-head
-add-head c = search needs
+add-ends : tie.Need-add-ends
+add-ends c = search needs
 
 mul-wide : tie.Need-mul-wide
 mul-wide c = search needs
@@ -151,7 +151,7 @@ find-spec =
     (tie.spec
     link-requires
     add-most
-    add-head
+    add-ends
     mul-wide
     array-read-wide
     wide-requires

@@ -32,13 +32,13 @@ sizes c =
     (h .sized, h .linked .level ∙ h .sized, omega (arith, p .owner (l .i) i, p .few), omega (arith, p .few, i))
 
 -- the owner's node, and the last of its list
-head-is : (c : tie.After-wide2 Inv-loop μ-loop)
+ends-is : (c : tie.After-wide2 Inv-loop μ-loop)
     → length (c .before .before .before .before .before .before .before .before .before .before .before .args .owners .now) + c .before .before .wide .result ≡ length (c .before .before .before .before .before .before .before .before .before .before .before .args .owners .now) + getD (c .before .before .before .before .before .before .before .before .before .before .before .args .owners .now) (c .before .before .before .before .before .loop .i) 0
-head-is c = ap (λ (v : ℕ). length (c .before .before .before .before .before .before .before .before .before .before .before .args .owners .now) + v) (c .before .before .wide .ensures)
+ends-is c = ap (λ (v : ℕ). length (c .before .before .before .before .before .before .before .before .before .before .before .args .owners .now) + v) (c .before .before .wide .ensures)
 
 last-is : (c : tie.After-wide2 Inv-loop μ-loop)
     → c .wide2 .result ≡ getD (c .before .before .before .before .before .loop .prev) (length (c .before .before .before .before .before .before .before .before .before .before .before .args .owners .now) + getD (c .before .before .before .before .before .before .before .before .before .before .before .args .owners .now) (c .before .before .before .before .before .loop .i) 0) 0
-last-is c = c .wide2 .ensures ∙ ap (λ (v : ℕ). getD (c .before .before .before .before .before .loop .prev) v 0) (head-is c)
+last-is c = c .wide2 .ensures ∙ ap (λ (v : ℕ). getD (c .before .before .before .before .before .loop .prev) v 0) (ends-is c)
 
 last-within : (c : tie.After-wide2 Inv-loop μ-loop) → c .wide2 .result < maxNodes
 last-within c =
@@ -66,8 +66,8 @@ shared-slice-read-wide c = search needs
 wide-requires : tie.Need-wide-requires Inv-loop μ-loop
 wide-requires c κs = search needs
 
-add-head : tie.Need-add-head Inv-loop μ-loop
-add-head c = let f = sizes (c .before .before) in omega (arith, f .0, f .1, f .2, f .3, c .wide .ensures)
+add-ends : tie.Need-add-ends Inv-loop μ-loop
+add-ends c = let f = sizes (c .before .before) in omega (arith, f .0, f .1, f .2, f .3, c .wide .ensures)
 
 mul-last : tie.Need-mul-last Inv-loop μ-loop
 mul-last c = let f = sizes (c .before .before) in omega (arith, f .0, f .1, f .2, f .3, c .wide .ensures)
@@ -119,7 +119,7 @@ loop-again c =
     let l = c .before .before .before .before .before .loop in
     let owners = c .before .before .before .before .before .before .before .before .before .before .before .args .owners .now in
     let k = length owners + c .before .before .wide .result in
-    (_, chained-as owners (l .inv .0) (l .next) (l .prev) maxNodes (l .i) (l .inv .1) (within (c .before .before .before .before)) (c .wide2 .result) k k (getD (l .prev) k 0) (last-is c) (head-is c) refl (ap (λ (v : ℕ). getD (l .prev) v 0) (head-is c)))
+    (_, chained-as owners (l .inv .0) (l .next) (l .prev) maxNodes (l .i) (l .inv .1) (within (c .before .before .before .before)) (c .wide2 .result) k k (getD (l .prev) k 0) (last-is c) (ends-is c) refl (ap (λ (v : ℕ). getD (l .prev) v 0) (ends-is c)))
 
 returns : tie.Need-returns Inv-loop μ-loop
 returns c =
@@ -141,7 +141,7 @@ link-spec =
     mul-wide
     shared-slice-read-wide
     wide-requires
-    add-head
+    add-ends
     mul-last
     element-copy-out-last
     wide-requires-2
