@@ -7,13 +7,13 @@ use native.Mathlib.Nat.{add-zero}
 use native.Mathlib.Omega.{arith}
 use lib.Dec.{leb, eqb}
 use lib.ListN.{length, getD}
-use borrow.Author.Tests.{eq-eqb, eqb-true, leb-true}
+use borrow.Author.Tests.{eq-eqb, eqb-true, leb-true, le-leb, lt-leb}
 use Rattle.octets.proofs.BoolLaws.{clash}
 use Rattle.chains.specs.Listing.{fits}
 use Rattle.chains.proofs.ListingLaws.{fits-is, is-fits}
 use Rattle.rows.specs.Rows.{maxFigures, Ordered}
 use Rattle.search.specs.Search.{Records, lengthOf, graphOf, State, stepped}
-use Rattle.search.specs.Links.{lists, First, Linked, Memory, memory, stateOf, unusedOf, searchOf, stepOf, Fit, Done}
+use Rattle.search.specs.Links.{maxNames, lists, First, Linked, Memory, memory, stateOf, unusedOf, searchOf, stepOf, Fit, Ready, Done}
 use Rattle.rows.proofs.HalvesLaws.{address-length}
 use Rattle.rows.proofs.KeepingLaws.{keep-ordered}
 use Rattle.search.proofs.NodeLaws.{below?}
@@ -85,28 +85,28 @@ module _ (r : Records) (x b : ℕ) (a : List ℕ) (c : ℕ) (m : Memory) where
     pub lives : length (m′ .lives) ≡ length (m .lives)
     pub listed : i < n → lists (r .owners) u x i ≡ true
 
-  module _ (k : Linked (r .owners) u (m .next) (m .prev)) where
-    pub going-start : (i : ℕ) → length (m .figures) ≡ maxFigures → n + x < length (m .next) → getD (m .figures) 0 0 * 16 ≤ length (m .out) → i ≡ getD (m .next) (n + x) 0 → Going m i
-    going-start i t l o e =
-        let h = subst (First (lists (r .owners) u x) n (n + x) 0) (sym e) (k .head x l) in
+  module _ (f : Fit r m b) where
+    pub going-start : (i : ℕ) → x < maxNames → i ≡ getD (m .next) (n + x) 0 → Going m i
+    going-start i l e =
+        let h = subst (First (lists (r .owners) u x) n (n + x) 0) (sym e) (f .linked .head x (omega (arith, f .nodes, f .numbered .owned .few))) in
         record {
           next = refl;
           prev = refl;
           state = to-none (graphOf r) u x b a c (stateOf m) ∙ sym (pass-to 0 (min i n) (omega arith) (λ w p q. h .none w p (omega arith) (omega arith)));
-          places = t;
-          room = o;
+          places = f .places;
+          room = f .room;
           out = refl;
           lives = refl;
           listed = λ o. h .here o .1;
         }
 
     module _ (m′ : Memory) (i : ℕ) (v : Going m′ i) (li : i < n) where
-      pub unmarked : getD u i 0 ≡ 0
+      unmarked : getD u i 0 ≡ 0
       unmarked = lists-free (r .owners) u x i (v .listed li)
 
       follows : First (lists (r .owners) u x) n (n + x) (suc i) (getD (m .next) i 0)
       follows =
-          subst (λ (y : ℕ). First (lists (r .owners) u y) n (n + y) (suc i) (getD (m .next) i 0)) (lists-owner (r .owners) u x i (v .listed li)) (k .on i li unmarked)
+          subst (λ (y : ℕ). First (lists (r .owners) u y) n (n + y) (suc i) (getD (m .next) i 0)) (lists-owner (r .owners) u x i (v .listed li)) (f .linked .on i li unmarked)
 
       pub further : i < getD (m′ .next) i 0
       further =
@@ -134,9 +134,9 @@ module _ (r : Records) (x b : ℕ) (a : List ℕ) (c : ℕ) (m : Memory) where
       at-i = let e : min i n ≡ i = omega arith in v .state ∙ ap to e
 
       -- a record that is too long is passed over
-      pub going-skip : (j : ℕ) → leb (lengthOf r i) b ≡ false → j ≡ getD (m′ .next) i 0 → Going m′ j
+      pub going-skip : (j : ℕ) → b < lengthOf r i → j ≡ getD (m′ .next) i 0 → Going m′ j
       going-skip j l ej =
-          going m′ j (v .next) (v .prev) (at-i ∙ sym (to-skip (graphOf r) u x b a c (stateOf m) i (long-unfit r u x b i l))) (v .places) (v .room) (v .out) (v .lives) ej
+          going m′ j (v .next) (v .prev) (at-i ∙ sym (to-skip (graphOf r) u x b a c (stateOf m) i (long-unfit r u x b i (lt-leb (lengthOf r i) b l)))) (v .places) (v .room) (v .out) (v .lives) ej
 
       -- the links are as they were
       same-links : _≡_ {A = Memory} (memory (m′ .next) (m′ .prev) (m .out) (m .lives) (m .figures) 0) (memory (m .next) (m .prev) (m .out) (m .lives) (m .figures) 0)
@@ -145,12 +145,11 @@ module _ (r : Records) (x b : ℕ) (a : List ℕ) (c : ℕ) (m : Memory) where
       pub same-unused : unusedOf r m′ ≡ u
       same-unused = ap (unusedOf r) same-links
 
-      -- and the step is taken into any other: the memory is fit for it
-      pub going-fit : Fit r m b → length a ≡ 16 → Fit r m′ b
-      going-fit f w = record {
+      fit-here : length a ≡ 16 → Fit r m′ b
+      fit-here w = record {
         numbered = f .numbered;
         nodes = ap length (v .next) ∙ f .nodes;
-        linked = subst (λ (w : Memory). Linked (r .owners) (unusedOf r w) (w .next) (w .prev)) (sym same-links) k;
+        linked = subst (λ (w : Memory). Linked (r .owners) (unusedOf r w) (w .next) (w .prev)) (sym same-links) (f .linked);
         places = v .places;
         room = subst (λ (w : ℕ). getD (m′ .figures) 0 0 * 16 ≤ w) (sym (v .out)) (v .room);
         level = ap (λ (w : ℕ). w * 16) (v .lives) ∙ f .level ∙ sym (v .out);
@@ -160,12 +159,16 @@ module _ (r : Records) (x b : ℕ) (a : List ℕ) (c : ℕ) (m : Memory) where
         bounded = f .bounded;
       }
 
-      pub going-step : (m″ : Memory) (j : ℕ) → leb (lengthOf r i) b ≡ true → Done m′ m″ (stepOf r i b a c m′) → length (m″ .out) ≡ length (m′ .out) → length (m″ .lives) ≡ length (m′ .lives)
+      -- any other may be stepped into while chains may be counted
+      pub going-ready : length a ≡ 16 → lengthOf r i ≤ b → 0 < m′ .left → Ready r m′ b i
+      going-ready w l h = record { fit = fit-here w; there = li; unused = ap (λ (w : List ℕ). getD w i 0) same-unused ∙ unmarked; short = l; counts = h }
+
+      pub going-step : (m″ : Memory) (j : ℕ) → lengthOf r i ≤ b → Done m′ m″ (stepOf r i b a c m′) → length (m″ .out) ≡ length (m′ .out) → length (m″ .lives) ≡ length (m′ .lives)
           → j ≡ getD (m″ .next) i 0 → Going m″ j
       going-step m″ j l d lo ll ej =
           going m″ j (d .next ∙ v .next) (d .prev ∙ v .prev)
           (d .state ∙ ap (λ (w : List ℕ). stepped (graphOf r) w i b a c (stateOf m′)) same-unused ∙ ap (stepped (graphOf r) u i b a c) at-i
-          ∙ sym (to-step (graphOf r) u x b a c (stateOf m) i (listed-fits r u x b i (v .listed li) l)))
+          ∙ sym (to-step (graphOf r) u x b a c (stateOf m) i (listed-fits r u x b i (v .listed li) (le-leb (lengthOf r i) b l))))
           (d .places) (subst (λ (w : ℕ). getD (m″ .figures) 0 0 * 16 ≤ w) (v .out) (d .room)) (lo ∙ v .out) (ll ∙ v .lives) ej
 
       -- where no chain may be counted any more the rest changes nothing

@@ -113,7 +113,15 @@ pub record Fit (r : Records) (m : Memory) (bound : ℕ) : Type 0 where
   pub some : 0 < bound
   pub bounded : bound ≤ 128
 
--- what it leaves: the links as they were, and the state that is expected
+-- what a step into the record i works on: it is unused and no longer than its referrer, and one more chain may be counted
+pub record Ready (r : Records) (m : Memory) (bound i : ℕ) : Type 0 where
+  pub fit : Fit r m bound
+  pub there : i < length (r .owners)
+  pub unused : getD (unusedOf r m) i 0 ≡ 0
+  pub short : lengthOf r i ≤ bound
+  pub counts : 0 < m .left
+
+-- what either leaves: the links as they were, and the state that is expected
 pub record Done (m m′ : Memory) (s : State) : Type 0 where
   pub next : m′ .next ≡ m .next
   pub prev : m′ .prev ≡ m .prev

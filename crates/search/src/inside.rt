@@ -7,7 +7,7 @@ ghost use Rattle.octets.specs.Answers.{refusal};
 ghost use Rattle.address.specs.Address.{joinOf};
 ghost use Rattle.rows.specs.Halves.{addressOf};
 ghost use Rattle.search.specs.Search.{maxRecords, headOf, targetIn, lengthIn, ttlIn, records, addressIn, graphOf};
-ghost use Rattle.search.specs.Links.{maxNames, Numbered, memory, unusedOf, searchOf, stepOf, Fit, Done};
+ghost use Rattle.search.specs.Links.{maxNames, Numbered, memory, searchOf, stepOf, Fit, Ready, Done};
 ghost use Rattle.search.specs.Answers.{foundOf, writtenOf, lastingOf};
 use crate::links;
 use rows::inside::FIGURES;
@@ -105,8 +105,7 @@ fn step(
     figures: &mut [usize; FIGURES],
     left: u64,
 ) -> u64
-    requires { ⌜ Fit (records (now owners) (now fields)) (memory (now next) (now prev) (now out) (now lives) (now figures) left) bound ⌝ }
-    requires { ⌜ (i < length (now owners)) × (getD (unusedOf (records (now owners) (now fields)) (memory (now next) (now prev) (now out) (now lives) (now figures) left)) i 0 ≡ 0) × (lengthIn (getD (now fields) i 0) ≤ bound) × (0 < left) ⌝ }
+    requires { ⌜ Ready (records (now owners) (now fields)) (memory (now next) (now prev) (now out) (now lives) (now figures) left) bound i ⌝ }
     ensures { λ r. ⌜ Done (memory (now (next .entry)) (now (prev .entry)) (now (out .entry)) (now (lives .entry)) (now (figures .entry)) left) (memory (now (next .exit)) (now (prev .exit)) (now (out .exit)) (now (lives .exit)) (now (figures .exit)) r) (stepOf (records (now (owners .entry)) (now (fields .entry))) i bound (addressOf high low) ttl (memory (now (next .entry)) (now (prev .entry)) (now (out .entry)) (now (lives .entry)) (now (figures .entry)) left)) ⌝ }
 {
     let head = fields[i];

@@ -83,13 +83,14 @@ slice-aggregate-find c = sym (length-take-le (c .before .count .result) (c .befo
 
 find-requires : tie.Need-find-requires
 find-requires c κs =
-    let t = c .before .before .before .before .before .before .before .before .before .before .before .before .before .before .before .before .before .before .before .before .args .table .now in
-    let o = c .before .before .before .before .before .before .before .before .before .before .before .before .before .before .before .before .before .before .before .before .pre .0 .0 in (
+    let s = c .before .before .before .before .before .before .before .before .before .before .before .before .before .before .before .before .before .before .before .before in
+    let t = s .args .table .now in
+    let o = s .pre .0 .0 in (
       (
         rw (c .before .before .before .before .count .ensures) (read-numbered t _ _ o (filled-up (c .before .before .before .before))),
-        rw (c .before .before .before .before .before .before .before .before .before .before .before .before .before .number .ensures .0) (number-below t _ _ o (filled-up (c .before .before .before .before)) (c .before .before .before .before .before .before .before .before .before .before .before .before .before .before .before .before .before .before .before .before .args .name .now)),
+        rw (c .before .before .before .before .before .before .before .before .before .before .before .before .before .number .ensures .0) (number-below t _ _ o (filled-up (c .before .before .before .before)) (s .args .name .now)),
       ),
-      c .before .before .before .before .before .before .before .before .before .before .before .before .before .before .before .before .before .before .before .before .pre .1,
+      s .pre .1,
     )
 
 same-length : tie.Need-same-length
@@ -100,11 +101,12 @@ same-length-2 c = search needs
 
 returns : tie.Need-returns
 returns c =
-    let t = c .before .before .before .before .before .before .before .before .before .before .before .before .before .before .before .before .before .before .before .before .before .before .before .before .before .args .table .now in
-    let o = c .before .before .before .before .before .before .before .before .before .before .before .before .before .before .before .before .before .before .before .before .before .before .before .before .before .pre .0 .0 in
-    let x = c .before .before .before .before .before .before .before .before .before .before .before .before .before .before .before .before .before .before .before .before .before .before .before .before .before .args .name .now in
-    let limit = c .before .before .before .before .before .before .before .before .before .before .before .before .before .before .before .before .before .before .before .before .before .before .before .before .before .args .limit in
-    let size = length (c .before .before .before .before .before .before .before .before .before .before .before .before .before .before .before .before .before .before .before .before .before .before .before .before .before .args .out .now) in
+    let s = c .before .before .before .before .before .before .before .before .before .before .before .before .before .before .before .before .before .before .before .before .before .before .before .before .before in
+    let t = s .args .table .now in
+    let o = s .pre .0 .0 in
+    let x = s .args .name .now in
+    let limit = s .args .limit in
+    let size = length (s .args .out .now) in
     let full = filled-up (c .before .before .before .before .before .before .before .before .before) in
     let y = numberIn (namesOf t) x in
     let h = search′.graphOf (search′.records (take (countOf t) (c .before .before .before .before .before .before .before .before .before .before .before .before .before .before .set-owners .last .1 .0)) (c .before .before .before .before .before .before .before .before .before .before .set-fields .last .1 .1 .0)) in

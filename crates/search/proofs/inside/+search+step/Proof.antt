@@ -1,21 +1,20 @@
 -- `search::inside::search` and `step` meet their contracts: unused records fall with each step, and the loop's invariant is that what is passed has been searched. Assumes nothing.
-use Prim.Native.Nat.{ℕ, _<_, _+_, _-_, _*_, min}
+use Prim.Native.Nat.{ℕ, _<_, _≤_, _+_, _-_, _*_, min}
 use mathlib.Core.List.{List}
 use mathlib.Core.Logic.{⊎-elim}
 use mathlib.Core.Path.{_≡_, refl, sym, ap, subst, _∙_}
 use native.Mathlib.Omega.{arith}
 use lib.ListN.{length, getD}
-use borrow.Author.Tests.{le-leb, lt-leb}
 use borrow.Author.Needs.{needs}
 use borrow.Fn.Kinds.{In}
 use borrow.Fn.PlainCycle.{Measures, is, falls, and}
 use Rattle.chains.specs.Listing.{free}
-use Rattle.search.specs.Links.{Memory, memory, marksOf, searchOf, stepOf, Done}
-use Rattle.search.specs.Search.{records, lengthOf}
+use Rattle.search.specs.Links.{maxNodes, Memory, memory, marksOf, unusedOf, stepOf, Fit, Ready, Done}
+use Rattle.search.specs.Search.{maxRecords, Records, records, targetOf, lengthOf, ttlOf, State}
 use Rattle.rows.specs.Halves.{addressOf}
 use Rattle.rows.proofs.HalvesLaws.{address-length}
-use Rattle.search.proofs.StepLaws.{without, p-node, q-node, fewer, fit-without, nothing, still-long, done-finished, done-unfinished}
-use Rattle.search.proofs.GoingLaws.{memory-eq, done-as, Going, going-start, going-step, going-skip, going-over, going-end, going-fit, unmarked, further, same-unused}
+use Rattle.search.proofs.StepLaws.{Taken, without, onward, done-finished, p-node, q-node, target-name, fewer, fit-without, nothing, searched-on, still-long, done-unfinished}
+use Rattle.search.proofs.GoingLaws.{memory-eq, done-as, Going, going-start, going-ready, going-step, going-skip, going-over, going-end, further, same-unused}
 use Rattle.search.proofs.inside.search.Reads as search′
 use Rattle.search.proofs.inside.search.Kinds as search-kinds
 use Rattle.search.proofs.inside.+search+step.Lts-search as search-lts
@@ -93,295 +92,343 @@ search-Inv-loop owners fields x first bound high low ttl next₀ prev₀ out₀ 
 abbrev search-μ-loop : search-lts.MeasureT-loop
 search-μ-loop owners fields x first bound high low ttl next₀ prev₀ out₀ lives₀ figures₀ left s₀ i₀ next prev out lives figures s i = length owners - i
 
-search-loop-holds : (t : ℕ) → search-lts.Need-loop-holds (search-claims t) (search-at t) search′.Post search-Inv-loop search-μ-loop
-search-loop-holds t c =
-    let a = c .before .before .before .args in
-    let table = records (a .owners .now) (a .fields .now) in
-    let start = memory (a .next .now) (a .prev .now) (a .out .now) (a .lives .now) (a .figures .now) (a .left) in
-    let f = c .before .before .before .pre .1 .0 in
-    going-start table (a .x) (a .bound) (addressOf (a .high) (a .low)) (a .ttl) start (f .linked) _ (f .places) (omega (arith, f .nodes, f .numbered .owned .few, c .before .before .before .pre .1 .1 .0)) (f .room) (c .before .before .before .pre .1 .1 .1)
+-- ---- search: what is known at its places, `Begun` where it begins, `Looping` where the loop is tested, `Turn` in a turn of it
+module _ (t : ℕ) where
+  abbrev Begun : Type 0
+  Begun = search-lts.Start (search-claims t) (search-at t) search′.Post search-Inv-loop search-μ-loop
 
-search-same-length : (t : ℕ) → search-lts.Need-same-length (search-claims t) (search-at t) search′.Post search-Inv-loop search-μ-loop
-search-same-length t c = c .before .before .loop .inv .out
+  abbrev Looping : Type 0
+  Looping = search-lts.At-loop (search-claims t) (search-at t) search′.Post search-Inv-loop search-μ-loop
 
-search-same-length-2 : (t : ℕ) → search-lts.Need-same-length-2 (search-claims t) (search-at t) search′.Post search-Inv-loop search-μ-loop
-search-same-length-2 t c = c .before .before .loop .inv .lives
+  abbrev Turn : Type 0
+  Turn = search-lts.In-loop (search-claims t) (search-at t) search′.Post search-Inv-loop search-μ-loop
 
-search-returns : (t : ℕ) → search-lts.Need-returns (search-claims t) (search-at t) search′.Post search-Inv-loop search-μ-loop
-search-returns t c =
-    let a = c .before .before .before .before .before .before .args in
-    let table = records (a .owners .now) (a .fields .now) in
-    let start = memory (a .next .now) (a .prev .now) (a .out .now) (a .lives .now) (a .figures .now) (a .left) in
-    let f = c .before .before .before .before .before .before .pre .1 .0 in
-    let l = c .before .before .loop in
-    let here = memory (l .next) (l .prev) (l .out) (l .lives) (l .figures) (l .s) in
-    going-over table (a .x) (a .bound) (addressOf (a .high) (a .low)) (a .ttl) start (f .linked) here (l .i) (l .inv) (c .before .loop-test .taken) (c .if1 .taken)
+  abbrev table : Begun → Records
+  table c = records (c .args .owners .now) (c .args .fields .now)
 
-search-mul-length-in : (t : ℕ) → search-lts.Need-mul-length-in (search-claims t) (search-at t) search′.Post search-Inv-loop search-μ-loop
-search-mul-length-in t c = omega (arith, c .before .before .before .before .before .before .pre .1 .0 .numbered .owned .few, c .before .loop-test .taken)
+  abbrev lent : Begun → Memory
+  lent c = memory (c .args .next .now) (c .args .prev .now) (c .args .out .now) (c .args .lives .now) (c .args .figures .now) (c .args .left)
 
-search-element-copy-out-length-in : (t : ℕ) → search-lts.Need-element-copy-out-length-in (search-claims t) (search-at t) search′.Post search-Inv-loop search-μ-loop
-search-element-copy-out-length-in t c = omega (arith, c .before .before .before .before .before .before .pre .1 .0 .numbered .owned .few, c .before .loop-test .taken)
+  abbrev here : Looping → Memory
+  here c = memory (c .loop .next) (c .loop .prev) (c .loop .out) (c .loop .lives) (c .loop .figures) (c .loop .s)
 
-search-length-in-requires : (t : ℕ) → search-lts.Need-length-in-requires (search-claims t) (search-at t) search′.Post search-Inv-loop search-μ-loop
-search-length-in-requires t c κs = search needs
+  abbrev bits : Begun → List ℕ
+  bits c = addressOf (c .args .high) (c .args .low)
 
-search-step-requires : (t : ℕ) → search-lts.Need-step-requires (search-claims t) (search-at t) search′.Post search-Inv-loop search-μ-loop
-search-step-requires t c κs =
-    let a = c .before .before .before .before .before .before .before .before .before .before .before .before .before .before .args in
-    let table = records (a .owners .now) (a .fields .now) in
-    let start = memory (a .next .now) (a .prev .now) (a .out .now) (a .lives .now) (a .figures .now) (a .left) in
-    let f = c .before .before .before .before .before .before .before .before .before .before .before .before .before .before .pre .1 .0 in
-    let l = c .before .before .before .before .before .before .before .before .before .before .loop in
-    let here = memory (l .next) (l .prev) (l .out) (l .lives) (l .figures) (l .s) in
-    let li = c .before .before .before .before .before .before .before .before .before .loop-test .taken in
-    let e = same-unused table (a .x) (a .bound) (addressOf (a .high) (a .low)) (a .ttl) start (f .linked) here (l .i) (l .inv) li in (
-      omega (arith, c .before .before .before .before .before .before .before .before .before .before .before .before .before .before .pre .0, ap free e),
-      (
-        going-fit table (a .x) (a .bound) (addressOf (a .high) (a .low)) (a .ttl) start (f .linked) here (l .i) (l .inv) li f (address-length (a .high) (a .low)),
+  -- what it is asked for, and the laws of its loop in a turn
+  fit : (c : Begun) → Fit (table c) (lent c) (c .args .bound)
+  fit c = c .pre .1 .0
+
+  abbrev begun : Turn → Begun
+  begun c = c .before .before .before .before .before
+
+  place : (c : Turn) → c .before .loop .i < maxRecords
+  place c = omega (arith, fit (begun c) .numbered .owned .few, c .loop-test .taken)
+
+  same : (c : Turn) → unusedOf (table (begun c)) (here (c .before)) ≡ unusedOf (table (begun c)) (lent (begun c))
+  same c =
+      let s = begun c in
+      let l = c .before .loop in
+      same-unused (table s) (s .args .x) (s .args .bound) (bits s) (s .args .ttl) (lent s) (fit s) (here (c .before)) (l .i) (l .inv) (c .loop-test .taken)
+
+  onwards : (c : Turn) → c .before .loop .i < getD (c .before .loop .next) (c .before .loop .i) 0
+  onwards c =
+      let s = begun c in
+      let l = c .before .loop in
+      further (table s) (s .args .x) (s .args .bound) (bits s) (s .args .ttl) (lent s) (fit s) (here (c .before)) (l .i) (l .inv) (c .loop-test .taken)
+
+  ready : (c : Turn) → lengthOf (table (begun c)) (c .before .loop .i) ≤ begun c .args .bound → 0 < c .before .loop .s
+      → Ready (table (begun c)) (here (c .before)) (begun c .args .bound) (c .before .loop .i)
+  ready c n h =
+      let s = begun c in
+      let l = c .before .loop in
+      going-ready (table s) (s .args .x) (s .args .bound) (bits s) (s .args .ttl) (lent s) (fit s) (here (c .before)) (l .i) (l .inv) (c .loop-test .taken)
+      (address-length (s .args .high) (s .args .low)) n h
+
+  -- ---- and what it owes
+  search-loop-holds : search-lts.Need-loop-holds (search-claims t) (search-at t) search′.Post search-Inv-loop search-μ-loop
+  search-loop-holds c =
+      let s = c .before .before .before in
+      let p = s .pre .1 .1 in
+      going-start (table s) (s .args .x) (s .args .bound) (bits s) (s .args .ttl) (lent s) (fit s) (s .args .first) (p .0) (p .1)
+
+  search-same-length : search-lts.Need-same-length (search-claims t) (search-at t) search′.Post search-Inv-loop search-μ-loop
+  search-same-length c = c .before .before .loop .inv .out
+
+  search-same-length-2 : search-lts.Need-same-length-2 (search-claims t) (search-at t) search′.Post search-Inv-loop search-μ-loop
+  search-same-length-2 c = c .before .before .loop .inv .lives
+
+  search-returns : search-lts.Need-returns (search-claims t) (search-at t) search′.Post search-Inv-loop search-μ-loop
+  search-returns c =
+      let s = c .before .before .before .before .before .before in
+      let l = c .before .before .loop in
+      going-over (table s) (s .args .x) (s .args .bound) (bits s) (s .args .ttl) (lent s) (fit s) (here (c .before .before)) (l .i) (l .inv) (c .before .loop-test .taken) (c .if1 .taken)
+
+  search-mul-length-in : search-lts.Need-mul-length-in (search-claims t) (search-at t) search′.Post search-Inv-loop search-μ-loop
+  search-mul-length-in c = omega (arith, place (c .before))
+
+  search-element-copy-out-length-in : search-lts.Need-element-copy-out-length-in (search-claims t) (search-at t) search′.Post search-Inv-loop search-μ-loop
+  search-element-copy-out-length-in c = omega (arith, place (c .before))
+
+  search-length-in-requires : search-lts.Need-length-in-requires (search-claims t) (search-at t) search′.Post search-Inv-loop search-μ-loop
+  search-length-in-requires c κs = search needs
+
+  search-step-requires : search-lts.Need-step-requires (search-claims t) (search-at t) search′.Post search-Inv-loop search-μ-loop
+  search-step-requires c κs = (
+    omega (arith, c .before .before .before .before .before .before .before .before .before .before .before .before .before .before .pre .0, ap free (same (c .before .before .before .before .before .before .before .before .before))),
+    ready (c .before .before .before .before .before .before .before .before .before) (omega (arith, c .before .before .before .before .before .before .length-in .ensures, c .before .before .before .before .before .if2 .taken)) (omega (arith, c .before .before .before .before .before .before .before .before .if1 .left)),
+  )
+
+  search-mul-wide : search-lts.Need-mul-wide (search-claims t) (search-at t) search′.Post search-Inv-loop search-μ-loop
+  search-mul-wide c = omega (arith, place (c .before .before .before .before))
+
+  search-element-copy-out-wide : search-lts.Need-element-copy-out-wide (search-claims t) (search-at t) search′.Post search-Inv-loop search-μ-loop
+  search-element-copy-out-wide c = omega (arith, place (c .before .before .before .before))
+
+  search-wide-requires : search-lts.Need-wide-requires (search-claims t) (search-at t) search′.Post search-Inv-loop search-μ-loop
+  search-wide-requires c κs = search needs
+
+  search-loop-less : search-lts.Need-loop-less (search-claims t) (search-at t) search′.Post search-Inv-loop search-μ-loop
+  search-loop-less c =
+      let l = c .before .before .before .before .before .before .before .loop in
+      let e : c .before .before .if2 .next ≡ l .next = ⊎-elim (λ w. w .11 ∙ w .6 .ensures .next) (λ w. w .1) (c .before .before .if2 .came) in
+      let r : c .wide .result ≡ getD (l .next) (l .i) 0 = c .wide .ensures ∙ ap (λ (v : List ℕ). getD v (l .i) 0) e in
+      omega (arith, onwards (c .before .before .before .before .before .before), r, c .before .before .before .before .before .before .loop-test .taken)
+
+  search-loop-again : search-lts.Need-loop-again (search-claims t) (search-at t) search′.Post search-Inv-loop search-μ-loop
+  search-loop-again c =
+      let s = c .before .before .before .before .before .before .before .before .before .before .before in
+      let a = s .args in
+      let h = here (c .before .before .before .before .before .before .before) in
+      let l = c .before .before .before .before .before .before .before .loop in
+      let li = c .before .before .before .before .before .before .loop-test .taken in
+      let j = c .before .before .if2 in
+      let there = memory (j .next) (j .prev) (j .out) (j .lives) (j .figures) (j .s) in
+      let n : c .before .before .before .length-in .result ≡ lengthOf (table s) (l .i) = c .before .before .before .length-in .ensures in
+      ⊎-elim
+      (λ w.
+      going-step (table s) (a .x) (a .bound) (bits s) (a .ttl) (lent s) (fit s) h (l .i) (l .inv) li there (c .wide .result) (omega (arith, n, w .0 .taken))
+      (done-as h _ there (stepOf (table s) (l .i) (a .bound) (bits s) (a .ttl) h) (memory-eq (w .11) (w .12) (w .13) (w .14) (w .15) (w .16)) (w .6 .ensures))
+      (ap length (w .13) ∙ w .6 .kept .1 .1 .1 .1 .1 .1 .1 .1 .1 .0) (ap length (w .14) ∙ w .6 .kept .1 .1 .1 .1 .1 .1 .1 .1 .1 .1 .0) (c .wide .ensures))
+      (λ w.
+      subst (λ (m : Memory). Going (table s) (a .x) (a .bound) (bits s) (a .ttl) (lent s) m (c .wide .result)) (sym (memory-eq (w .1) (w .2) (w .3) (w .4) (w .5) (w .6)))
+      (going-skip (table s) (a .x) (a .bound) (bits s) (a .ttl) (lent s) (fit s) h (l .i) (l .inv) li (c .wide .result) (omega (arith, n, w .0 .left))
+      (c .wide .ensures ∙ ap (λ (v : List ℕ). getD v (l .i) 0) (w .1))))
+      (j .came)
+
+  search-same-length-3 : search-lts.Need-same-length-3 (search-claims t) (search-at t) search′.Post search-Inv-loop search-μ-loop
+  search-same-length-3 c = c .before .loop .inv .out
+
+  search-same-length-4 : search-lts.Need-same-length-4 (search-claims t) (search-at t) search′.Post search-Inv-loop search-μ-loop
+  search-same-length-4 c = c .before .loop .inv .lives
+
+  search-returns-2 : search-lts.Need-returns-2 (search-claims t) (search-at t) search′.Post search-Inv-loop search-μ-loop
+  search-returns-2 c =
+      let s = c .before .before .before .before .before in
+      let l = c .before .loop in
+      going-end (table s) (s .args .x) (s .args .bound) (bits s) (s .args .ttl) (lent s) (fit s) (here (c .before)) (l .i) (l .inv) (c .loop-test .left)
+
+-- ---- step: what is known at its places, `Begun′` where it begins, `Goes-on` where the record is unfinished, `Out` where it is out of its list, `Back`
+-- after the search from it
+module _ (t : ℕ) where
+  abbrev Begun′ : Type 0
+  Begun′ = step-lts.Start (step-claims t) (step-at t) step.Post
+
+  abbrev Goes-on : Type 0
+  Goes-on = step-lts.Else1 (step-claims t) (step-at t) step.Post
+
+  abbrev Out : Type 0
+  Out = step-lts.After-unlink (step-claims t) (step-at t) step.Post
+
+  abbrev Back : Type 0
+  Back = step-lts.Joined2 (step-claims t) (step-at t) step.Post
+
+  abbrev table′ : Begun′ → Records
+  table′ c = records (c .args .owners .now) (c .args .fields .now)
+
+  abbrev lent′ : Begun′ → Memory
+  lent′ c = memory (c .args .next .now) (c .args .prev .now) (c .args .out .now) (c .args .lives .now) (c .args .figures .now) (c .args .left)
+
+  abbrev bits′ : Begun′ → List ℕ
+  bits′ c = addressOf (c .args .high) (c .args .low)
+
+  given : (c : Begun′) → Ready (table′ c) (lent′ c) (c .args .bound) (c .args .i)
+  given c = c .pre .1
+
+  index : (c : Begun′) → c .args .i < maxRecords
+  index c = omega (arith, given c .fit .numbered .owned .few, given c .there)
+
+  abbrev begun-on : Goes-on → Begun′
+  begun-on c = c .before .before .before .before .before .before .before .before .before
+
+  unfinished : (c : Goes-on) → 0 < lengthOf (table′ (begun-on c)) (begun-on c .args .i)
+  unfinished c = omega (arith, c .before .before .before .before .length-in .ensures, c .if1 .left)
+
+  abbrev begun-out : Out → Begun′
+  begun-out c = c .before .before .before .before .before .before .before .before .before .before .before .before .before .before .before .before .before
+
+  abbrev taken : (c : Out) → Taken (lent′ (begun-out c)) (begun-out c .args .i)
+  taken c = record {
+    p = c .before .before .before .before .before .wide .result;
+    q = c .before .before .before .wide2 .result;
+    next = c .unlink .last .1 .1 .0;
+    prev = c .unlink .last .1 .1 .1 .0;
+    p-is = c .before .before .before .before .before .wide .ensures;
+    q-is = c .before .before .before .wide2 .ensures;
+    next-is = c .unlink .ensures .0;
+    prev-is = c .unlink .ensures .1;
+  }
+
+  -- the memory with the record out, and the state that the search from it comes to
+  abbrev bare : Out → Memory
+  bare c = without (lent′ (begun-out c)) (begun-out c .args .i) (taken c)
+
+  abbrev expected : Out → State
+  expected c = let s = begun-out c in onward (table′ s) (lent′ s) (s .args .bound) (s .args .i) (bits′ s) (s .args .ttl) (taken c)
+
+  -- the node of its target
+  ends : (c : Out) → length (begun-out c .args .owners .now) + c .before .before .before .before .before .before .before .target-in .result < maxNodes
+  ends c =
+      let o = given (begun-out c) in
+      omega (arith, c .before .before .before .before .before .before .before .target-in .ensures, o .fit .numbered .owned .few, target-name o (unfinished (c .before .before .before .before .before .before .before .before)))
+
+  abbrev left-here : Back → Memory
+  left-here c = memory (c .if2 .next) (c .if2 .prev) (c .if2 .out) (c .if2 .lives) (c .if2 .figures) (c .if2 .r)
+
+  -- it was searched from there on, or there was nothing to search
+  been : (c : Back) → Done (bare (c .before .before .before)) (left-here c) (expected (c .before .before .before))
+  been c =
+      let s = c .before .before .before .before .before .before .before .before .before .before .before .before .before .before .before .before .before .before .before .before in
+      let a = s .args in
+      let k = taken (c .before .before .before) in
+      let x : c .before .before .before .before .before .before .before .before .before .before .target-in .result ≡ targetOf (table′ s) (a .i) = c .before .before .before .before .before .before .before .before .before .before .target-in .ensures in
+      let y : c .before .before .before .before .before .before .before .before .before .before .before .before .lesser .result ≡ min (a .ttl) (ttlOf (table′ s) (a .i)) = c .before .before .before .before .before .before .before .before .before .before .before .before .lesser .ensures ∙ ap (min (a .ttl)) (c .before .before .before .before .before .before .before .before .before .before .before .before .before .ttl-in .ensures) in
+      let z : getD (k .next) (length (a .owners .now) + c .before .before .before .before .before .before .before .before .before .before .target-in .result) 0 ≡ getD (k .next) (length (a .owners .now) + targetOf (table′ s) (a .i)) 0 =
+      ap (λ (v : ℕ). getD (k .next) (length (a .owners .now) + v) 0) x in
+      ⊎-elim
+      (λ w. done-as (bare (c .before .before .before)) _ (left-here c) (expected (c .before .before .before)) (memory-eq (w .11) (w .12) (w .13) (w .14) (w .15) (w .16))
+      (searched-on (given s) k (bits′ s) (a .ttl) _ _ _ _ _ x (c .before .before .before .before .before .before .before .before .before .before .before .before .before .before .before .length-in .ensures) (c .before .before .before .before .before .before .before .before .before .before .before .before .before .before .joined .ensures) y (w .6 .ensures)))
+      (λ w. done-as (bare (c .before .before .before)) (bare (c .before .before .before)) (left-here c) (expected (c .before .before .before)) (memory-eq (w .1) (w .2) (w .3) (w .4) (w .5) (w .6))
+      (nothing (given s) k (bits′ s) (a .ttl) (unfinished (c .before .before .before .before .before .before .before .before .before .before .before)) (omega (arith, c .before .wide3 .ensures, w .0 .left, z))))
+      (c .if2 .came)
+
+  -- ---- and what it owes
+  step-mul-head : step-lts.Need-mul-head (step-claims t) (step-at t) step.Post
+  step-mul-head c = omega (arith, index (c .before .before .before))
+
+  step-element-copy-out-head : step-lts.Need-element-copy-out-head (step-claims t) (step-at t) step.Post
+  step-element-copy-out-head c = omega (arith, index (c .before .before .before))
+
+  step-length-in-requires : step-lts.Need-length-in-requires (step-claims t) (step-at t) step.Post
+  step-length-in-requires c κs = search needs
+
+  step-joined-requires : step-lts.Need-joined-requires (step-claims t) (step-at t) step.Post
+  step-joined-requires c κs = (index (c .before .before .before .before .before), (given (c .before .before .before .before .before) .fit .some, given (c .before .before .before .before .before) .fit .bounded))
+
+  step-ttl-in-requires : step-lts.Need-ttl-in-requires (step-claims t) (step-at t) step.Post
+  step-ttl-in-requires c κs = search needs
+
+  step-lesser-requires : step-lts.Need-lesser-requires (step-claims t) (step-at t) step.Post
+  step-lesser-requires c κs = search needs
+
+  step-sub-rest : step-lts.Need-sub-rest (step-claims t) (step-at t) step.Post
+  step-sub-rest c = omega (arith, given (c .before .before .before .before .before .before .before .before) .counts)
+
+  step-keep-requires : step-lts.Need-keep-requires (step-claims t) (step-at t) step.Post
+  step-keep-requires c κs =
+      let f = given (c .before .before .before .before .before .before .before .before .before .before .before .before) .fit in
+      (f .places, f .room, f .level, f .ordered)
+
+  step-same-length : step-lts.Need-same-length (step-claims t) (step-at t) step.Post
+  step-same-length c = search needs
+
+  step-same-length-2 : step-lts.Need-same-length-2 (step-claims t) (step-at t) step.Post
+  step-same-length-2 c = search needs
+
+  step-returns : step-lts.Need-returns (step-claims t) (step-at t) step.Post
+  step-returns c =
+      let s = c .before .before .before .before .before .before .before .before .before .before .before .before .before .before .before .before .before in
+      let k = c .before .before .before .before .keep .ensures in
+      done-finished (given s) (bits′ s) _ _ _ _ (s .args .ttl) _ (sym (c .before .before .before .before .before .before .before .before .before .before .before .before .length-in .ensures) ∙ c .before .before .before .before .before .before .before .before .if1 .taken) (c .before .before .before .before .before .before .before .before .before .before .before .joined .ensures)
+      (c .before .before .before .before .before .before .before .before .before .lesser .ensures ∙ ap (min (s .args .ttl)) (c .before .before .before .before .before .before .before .before .before .before .ttl-in .ensures)) (k .0) (k .1) (k .2)
+
+  step-target-in-requires : step-lts.Need-target-in-requires (step-claims t) (step-at t) step.Post
+  step-target-in-requires c κs = search needs
+
+  step-mul-wide : step-lts.Need-mul-wide (step-claims t) (step-at t) step.Post
+  step-mul-wide c = omega (arith, index (c .before .before .before .before .before .before .before .before .before .before))
+
+  step-element-copy-out-wide : step-lts.Need-element-copy-out-wide (step-claims t) (step-at t) step.Post
+  step-element-copy-out-wide c = omega (arith, index (c .before .before .before .before .before .before .before .before .before .before))
+
+  step-wide-requires : step-lts.Need-wide-requires (step-claims t) (step-at t) step.Post
+  step-wide-requires c κs = search needs
+
+  step-mul-wide-2 : step-lts.Need-mul-wide-2 (step-claims t) (step-at t) step.Post
+  step-mul-wide-2 c = omega (arith, index (c .before .before .before .before .before .before .before .before .before .before .before .before))
+
+  step-element-copy-out-wide-2 : step-lts.Need-element-copy-out-wide-2 (step-claims t) (step-at t) step.Post
+  step-element-copy-out-wide-2 c = omega (arith, index (c .before .before .before .before .before .before .before .before .before .before .before .before))
+
+  step-wide-requires-2 : step-lts.Need-wide-requires-2 (step-claims t) (step-at t) step.Post
+  step-wide-requires-2 c κs = search needs
+
+  step-unlink-requires : step-lts.Need-unlink-requires (step-claims t) (step-at t) step.Post
+  step-unlink-requires c κs =
+      let o = given (c .before .before .before .before .before .before .before .before .before .before .before .before .before .before .before .before) in (
+        o .fit .nodes,
+        o .fit .linked .level ∙ o .fit .nodes,
+        p-node o _ (c .before .before .before .before .wide .ensures),
+        q-node o _ (c .before .before .wide2 .ensures),
+      )
+
+  step-add-ends : step-lts.Need-add-ends (step-claims t) (step-at t) step.Post
+  step-add-ends c = omega (arith, ends c)
+
+  step-mul-wide-3 : step-lts.Need-mul-wide-3 (step-claims t) (step-at t) step.Post
+  step-mul-wide-3 c = omega (arith, ends c)
+
+  step-element-copy-out-wide-3 : step-lts.Need-element-copy-out-wide-3 (step-claims t) (step-at t) step.Post
+  step-element-copy-out-wide-3 c = omega (arith, ends c)
+
+  step-wide-requires-3 : step-lts.Need-wide-requires-3 (step-claims t) (step-at t) step.Post
+  step-wide-requires-3 c κs = search needs
+
+  step-search-requires : step-lts.Need-search-requires (step-claims t) (step-at t) step.Post
+  step-search-requires c κs =
+      let b = c .before .before .before .before .before .before .before .before .before .before .before .before .before .before .before .before .before .before .before .before .length-in .ensures in
+      let o = given (c .before .before .before .before .before .before .before .before .before .before .before .before .before .before .before .before .before .before .before .before .before .before .before .before .before) in (
+        omega (arith, c .before .before .before .before .before .before .before .before .before .before .before .before .before .before .before .before .before .before .before .before .before .before .before .before .before .pre .0, fewer o (taken (c .before .before .before .before .before .before .before .before))),
         (
-          li,
-          ap (λ (u : List ℕ). getD u (l .i) 0) e ∙ unmarked table (a .x) (a .bound) (addressOf (a .high) (a .low)) (a .ttl) start (f .linked) here (l .i) (l .inv) li,
-          omega (arith, c .before .before .before .before .before .before .length-in .ensures, c .before .before .before .before .before .if2 .taken),
-          omega (arith, c .before .before .before .before .before .before .before .before .if1 .left),
+          fit-without o (taken (c .before .before .before .before .before .before .before .before)) _ b (omega (arith, b, unfinished (c .before .before .before .before .before .before .before .before .before .before .before .before .before .before .before .before))),
+          (omega (arith, c .before .before .before .before .before .before .before .before .before .before .before .before .before .before .before .target-in .ensures, target-name o (unfinished (c .before .before .before .before .before .before .before .before .before .before .before .before .before .before .before .before))), c .before .before .before .before .before .before .wide3 .ensures),
         ),
-      ),
-    )
+      )
 
-search-mul-wide : (t : ℕ) → search-lts.Need-mul-wide (search-claims t) (search-at t) search′.Post search-Inv-loop search-μ-loop
-search-mul-wide t c = omega (arith, c .before .before .before .before .before .before .before .before .before .pre .1 .0 .numbered .owned .few, c .before .before .before .before .loop-test .taken)
+  step-relink-requires : step-lts.Need-relink-requires (step-claims t) (step-at t) step.Post
+  step-relink-requires c κs =
+      let s = c .before .before .before .before .before .before .before .before .before .before .before .before .before .before .before .before .before .before .before .before .before .before in
+      let o = given s in
+      let k = taken (c .before .before .before .before .before) in
+      let g = still-long o k (bits′ s) (s .args .ttl) (left-here (c .before .before)) (been (c .before .before)) in (
+        g .0,
+        g .1,
+        p-node o _ (k .p-is),
+        q-node o _ (k .q-is),
+        omega (arith, index s),
+      )
 
-search-element-copy-out-wide : (t : ℕ) → search-lts.Need-element-copy-out-wide (search-claims t) (search-at t) search′.Post search-Inv-loop search-μ-loop
-search-element-copy-out-wide t c = omega (arith, c .before .before .before .before .before .before .before .before .before .pre .1 .0 .numbered .owned .few, c .before .before .before .before .loop-test .taken)
+  step-same-length-3 : step-lts.Need-same-length-3 (step-claims t) (step-at t) step.Post
+  step-same-length-3 c = ⊎-elim (λ w. ap length (w .13) ∙ w .6 .kept .1 .1 .1 .1 .1 .1 .1 .1 .1 .1 .0) (λ w. ap length (w .3)) (c .before .before .before .if2 .came)
 
-search-wide-requires : (t : ℕ) → search-lts.Need-wide-requires (search-claims t) (search-at t) search′.Post search-Inv-loop search-μ-loop
-search-wide-requires t c κs = search needs
+  step-same-length-4 : step-lts.Need-same-length-4 (step-claims t) (step-at t) step.Post
+  step-same-length-4 c = ⊎-elim (λ w. ap length (w .14) ∙ w .6 .kept .1 .1 .1 .1 .1 .1 .1 .1 .1 .1 .1 .0) (λ w. ap length (w .4)) (c .before .before .before .if2 .came)
 
-search-loop-less : (t : ℕ) → search-lts.Need-loop-less (search-claims t) (search-at t) search′.Post search-Inv-loop search-μ-loop
-search-loop-less t c =
-    let a = c .before .before .before .before .before .before .before .before .before .before .before .args in
-    let table = records (a .owners .now) (a .fields .now) in
-    let start = memory (a .next .now) (a .prev .now) (a .out .now) (a .lives .now) (a .figures .now) (a .left) in
-    let f = c .before .before .before .before .before .before .before .before .before .before .before .pre .1 .0 in
-    let l = c .before .before .before .before .before .before .before .loop in
-    let here = memory (l .next) (l .prev) (l .out) (l .lives) (l .figures) (l .s) in
-    let li = c .before .before .before .before .before .before .loop-test .taken in
-    let e : c .before .before .if2 .next ≡ l .next = ⊎-elim (λ w. w .11 ∙ w .6 .ensures .next) (λ w. w .1) (c .before .before .if2 .came) in
-    let m = further table (a .x) (a .bound) (addressOf (a .high) (a .low)) (a .ttl) start (f .linked) here (l .i) (l .inv) li in
-    let r : c .wide .result ≡ getD (l .next) (l .i) 0 = c .wide .ensures ∙ ap (λ (v : List ℕ). getD v (l .i) 0) e in
-    omega (arith, m, r, li)
-
-search-loop-again : (t : ℕ) → search-lts.Need-loop-again (search-claims t) (search-at t) search′.Post search-Inv-loop search-μ-loop
-search-loop-again t c =
-    let a = c .before .before .before .before .before .before .before .before .before .before .before .args in
-    let table = records (a .owners .now) (a .fields .now) in
-    let start = memory (a .next .now) (a .prev .now) (a .out .now) (a .lives .now) (a .figures .now) (a .left) in
-    let f = c .before .before .before .before .before .before .before .before .before .before .before .pre .1 .0 in
-    let l = c .before .before .before .before .before .before .before .loop in
-    let here = memory (l .next) (l .prev) (l .out) (l .lives) (l .figures) (l .s) in
-    let li = c .before .before .before .before .before .before .loop-test .taken in
-    let j = c .before .before .if2 in
-    let there = memory (j .next) (j .prev) (j .out) (j .lives) (j .figures) (j .s) in
-    let n : c .before .before .before .length-in .result ≡ lengthOf table (l .i) = c .before .before .before .length-in .ensures in
-    ⊎-elim
-    (λ w.
-    going-step table (a .x) (a .bound) (addressOf (a .high) (a .low)) (a .ttl) start (f .linked) here (l .i) (l .inv) li
-    there (c .wide .result) (le-leb (lengthOf table (l .i)) (a .bound) (omega (arith, n, w .0 .taken)))
-    (done-as here _ there (stepOf table (l .i) (a .bound) (addressOf (a .high) (a .low)) (a .ttl) here) (memory-eq (w .11) (w .12) (w .13) (w .14) (w .15) (w .16)) (w .6 .ensures))
-    (ap length (w .13) ∙ w .6 .kept .1 .1 .1 .1 .1 .1 .1 .1 .1 .0) (ap length (w .14) ∙ w .6 .kept .1 .1 .1 .1 .1 .1 .1 .1 .1 .1 .0) (c .wide .ensures))
-    (λ w.
-    subst (λ (m : Memory). Going table (a .x) (a .bound) (addressOf (a .high) (a .low)) (a .ttl) start m (c .wide .result)) (sym (memory-eq (w .1) (w .2) (w .3) (w .4) (w .5) (w .6)))
-    (going-skip table (a .x) (a .bound) (addressOf (a .high) (a .low)) (a .ttl) start (f .linked) here (l .i) (l .inv) li (c .wide .result) (lt-leb (lengthOf table (l .i)) (a .bound) (omega (arith, n, w .0 .left)))
-    (c .wide .ensures ∙ ap (λ (v : List ℕ). getD v (l .i) 0) (w .1))))
-    (j .came)
-
-search-same-length-3 : (t : ℕ) → search-lts.Need-same-length-3 (search-claims t) (search-at t) search′.Post search-Inv-loop search-μ-loop
-search-same-length-3 t c = c .before .loop .inv .out
-
-search-same-length-4 : (t : ℕ) → search-lts.Need-same-length-4 (search-claims t) (search-at t) search′.Post search-Inv-loop search-μ-loop
-search-same-length-4 t c = c .before .loop .inv .lives
-
-search-returns-2 : (t : ℕ) → search-lts.Need-returns-2 (search-claims t) (search-at t) search′.Post search-Inv-loop search-μ-loop
-search-returns-2 t c =
-    let a = c .before .before .before .before .before .args in
-    let table = records (a .owners .now) (a .fields .now) in
-    let start = memory (a .next .now) (a .prev .now) (a .out .now) (a .lives .now) (a .figures .now) (a .left) in
-    let f = c .before .before .before .before .before .pre .1 .0 in
-    let l = c .before .loop in
-    let here = memory (l .next) (l .prev) (l .out) (l .lives) (l .figures) (l .s) in
-    going-end table (a .x) (a .bound) (addressOf (a .high) (a .low)) (a .ttl) start (f .linked) here (l .i) (l .inv) (c .loop-test .left)
-
-step-mul-head : (t : ℕ) → step-lts.Need-mul-head (step-claims t) (step-at t) step.Post
-step-mul-head t c = omega (arith, c .before .before .before .pre .1 .0 .numbered .owned .few, c .before .before .before .pre .1 .1 .0)
-
-step-element-copy-out-head : (t : ℕ) → step-lts.Need-element-copy-out-head (step-claims t) (step-at t) step.Post
-step-element-copy-out-head t c = omega (arith, c .before .before .before .pre .1 .0 .numbered .owned .few, c .before .before .before .pre .1 .1 .0)
-
-step-length-in-requires : (t : ℕ) → step-lts.Need-length-in-requires (step-claims t) (step-at t) step.Post
-step-length-in-requires t c κs = search needs
-
-step-joined-requires : (t : ℕ) → step-lts.Need-joined-requires (step-claims t) (step-at t) step.Post
-step-joined-requires t c κs =
-    let a = c .before .before .before .before .before .args in
-    let p = c .before .before .before .before .before .pre .1 in
-    (omega (arith, p .0 .numbered .owned .few, p .1 .0), (p .0 .some, p .0 .bounded))
-
-step-ttl-in-requires : (t : ℕ) → step-lts.Need-ttl-in-requires (step-claims t) (step-at t) step.Post
-step-ttl-in-requires t c κs = search needs
-
-step-lesser-requires : (t : ℕ) → step-lts.Need-lesser-requires (step-claims t) (step-at t) step.Post
-step-lesser-requires t c κs = search needs
-
-step-sub-rest : (t : ℕ) → step-lts.Need-sub-rest (step-claims t) (step-at t) step.Post
-step-sub-rest t c = omega (arith, c .before .before .before .before .before .before .before .before .pre .1 .1 .3)
-
-step-keep-requires : (t : ℕ) → step-lts.Need-keep-requires (step-claims t) (step-at t) step.Post
-step-keep-requires t c κs =
-    let f = c .before .before .before .before .before .before .before .before .before .before .before .before .pre .1 .0 in
-    (f .places, f .room, f .level, f .ordered)
-
-step-same-length : (t : ℕ) → step-lts.Need-same-length (step-claims t) (step-at t) step.Post
-step-same-length t c = search needs
-
-step-same-length-2 : (t : ℕ) → step-lts.Need-same-length-2 (step-claims t) (step-at t) step.Post
-step-same-length-2 t c = search needs
-
-step-returns : (t : ℕ) → step-lts.Need-returns (step-claims t) (step-at t) step.Post
-step-returns t c =
-    let a = c .before .before .before .before .before .before .before .before .before .before .before .before .before .before .before .before .before .args in
-    let table = records (a .owners .now) (a .fields .now) in
-    let start = memory (a .next .now) (a .prev .now) (a .out .now) (a .lives .now) (a .figures .now) (a .left) in
-    let p = c .before .before .before .before .before .before .before .before .before .before .before .before .before .before .before .before .before .pre .1 in
-    let k = c .before .before .before .before .keep .ensures in
-    done-finished table start (a .bound) (a .i) (p .0) (p .1 .0) (p .1 .1) (addressOf (a .high) (a .low)) _ _ _ _ (a .ttl) _ (p .1 .3) (sym (c .before .before .before .before .before .before .before .before .before .before .before .before .length-in .ensures) ∙ c .before .before .before .before .before .before .before .before .if1 .taken) (c .before .before .before .before .before .before .before .before .before .before .before .joined .ensures) (c .before .before .before .before .before .before .before .before .before .lesser .ensures ∙ ap (min (a .ttl)) (c .before .before .before .before .before .before .before .before .before .before .ttl-in .ensures)) (k .0) (k .1) (k .2)
-
-step-target-in-requires : (t : ℕ) → step-lts.Need-target-in-requires (step-claims t) (step-at t) step.Post
-step-target-in-requires t c κs = search needs
-
-step-mul-wide : (t : ℕ) → step-lts.Need-mul-wide (step-claims t) (step-at t) step.Post
-step-mul-wide t c = omega (arith, c .before .before .before .before .before .before .before .before .before .before .pre .1 .0 .numbered .owned .few, c .before .before .before .before .before .before .before .before .before .before .pre .1 .1 .0)
-
-step-element-copy-out-wide : (t : ℕ) → step-lts.Need-element-copy-out-wide (step-claims t) (step-at t) step.Post
-step-element-copy-out-wide t c = omega (arith, c .before .before .before .before .before .before .before .before .before .before .pre .1 .0 .numbered .owned .few, c .before .before .before .before .before .before .before .before .before .before .pre .1 .1 .0)
-
-step-wide-requires : (t : ℕ) → step-lts.Need-wide-requires (step-claims t) (step-at t) step.Post
-step-wide-requires t c κs = search needs
-
-step-mul-wide-2 : (t : ℕ) → step-lts.Need-mul-wide-2 (step-claims t) (step-at t) step.Post
-step-mul-wide-2 t c = omega (arith, c .before .before .before .before .before .before .before .before .before .before .before .before .pre .1 .0 .numbered .owned .few, c .before .before .before .before .before .before .before .before .before .before .before .before .pre .1 .1 .0)
-
-step-element-copy-out-wide-2 : (t : ℕ) → step-lts.Need-element-copy-out-wide-2 (step-claims t) (step-at t) step.Post
-step-element-copy-out-wide-2 t c = omega (arith, c .before .before .before .before .before .before .before .before .before .before .before .before .pre .1 .0 .numbered .owned .few, c .before .before .before .before .before .before .before .before .before .before .before .before .pre .1 .1 .0)
-
-step-wide-requires-2 : (t : ℕ) → step-lts.Need-wide-requires-2 (step-claims t) (step-at t) step.Post
-step-wide-requires-2 t c κs = search needs
-
-step-unlink-requires : (t : ℕ) → step-lts.Need-unlink-requires (step-claims t) (step-at t) step.Post
-step-unlink-requires t c κs =
-    let a = c .before .before .before .before .before .before .before .before .before .before .before .before .before .before .before .before .args in
-    let table = records (a .owners .now) (a .fields .now) in
-    let start = memory (a .next .now) (a .prev .now) (a .out .now) (a .lives .now) (a .figures .now) (a .left) in
-    let p = c .before .before .before .before .before .before .before .before .before .before .before .before .before .before .before .before .pre .1 in
-    (p .0 .nodes, p .0 .linked .level ∙ p .0 .nodes, p-node table start (a .bound) (a .i) (p .0) (p .1 .0) (p .1 .1) (c .before .before .before .before .wide .result) (c .before .before .wide2 .result) (c .before .before .before .before .wide .ensures) (c .before .before .wide2 .ensures), q-node table start (a .bound) (a .i) (p .0) (p .1 .0) (p .1 .1) (c .before .before .before .before .wide .result) (c .before .before .wide2 .result) (c .before .before .before .before .wide .ensures) (c .before .before .wide2 .ensures))
-
-step-add-ends : (t : ℕ) → step-lts.Need-add-ends (step-claims t) (step-at t) step.Post
-step-add-ends t c =
-    let a = c .before .before .before .before .before .before .before .before .before .before .before .before .before .before .before .before .before .args in
-    let p = c .before .before .before .before .before .before .before .before .before .before .before .before .before .before .before .before .before .pre .1 in
-    omega (arith, c .before .before .before .before .before .before .before .target-in .ensures, p .0 .numbered .owned .few, p .0 .numbered .target (a .i) (p .1 .0) (omega (arith, c .before .before .before .before .before .before .before .before .if1 .left)))
-
-step-mul-wide-3 : (t : ℕ) → step-lts.Need-mul-wide-3 (step-claims t) (step-at t) step.Post
-step-mul-wide-3 t c =
-    let a = c .before .before .before .before .before .before .before .before .before .before .before .before .before .before .before .before .before .args in
-    let p = c .before .before .before .before .before .before .before .before .before .before .before .before .before .before .before .before .before .pre .1 in
-    omega (arith, c .before .before .before .before .before .before .before .target-in .ensures, p .0 .numbered .owned .few, p .0 .numbered .target (a .i) (p .1 .0) (omega (arith, c .before .before .before .before .before .before .before .before .if1 .left)))
-
-step-element-copy-out-wide-3 : (t : ℕ) → step-lts.Need-element-copy-out-wide-3 (step-claims t) (step-at t) step.Post
-step-element-copy-out-wide-3 t c =
-    let a = c .before .before .before .before .before .before .before .before .before .before .before .before .before .before .before .before .before .args in
-    let p = c .before .before .before .before .before .before .before .before .before .before .before .before .before .before .before .before .before .pre .1 in
-    omega (arith, c .before .before .before .before .before .before .before .target-in .ensures, p .0 .numbered .owned .few, p .0 .numbered .target (a .i) (p .1 .0) (omega (arith, c .before .before .before .before .before .before .before .before .if1 .left)))
-
-step-wide-requires-3 : (t : ℕ) → step-lts.Need-wide-requires-3 (step-claims t) (step-at t) step.Post
-step-wide-requires-3 t c κs = search needs
-
-step-search-requires : (t : ℕ) → step-lts.Need-search-requires (step-claims t) (step-at t) step.Post
-step-search-requires t c κs =
-    let a = c .before .before .before .before .before .before .before .before .before .before .before .before .before .before .before .before .before .before .before .before .before .before .before .before .before .args in
-    let table = records (a .owners .now) (a .fields .now) in
-    let start = memory (a .next .now) (a .prev .now) (a .out .now) (a .lives .now) (a .figures .now) (a .left) in
-    let p = c .before .before .before .before .before .before .before .before .before .before .before .before .before .before .before .before .before .before .before .before .before .before .before .before .before .pre .1 in
-    let o : 0 < c .before .before .before .before .before .before .before .before .before .before .before .before .before .before .before .before .before .before .before .before .length-in .result = omega (arith, c .before .before .before .before .before .before .before .before .before .before .before .before .before .before .before .before .if1 .left) in (
-      omega (arith, c .before .before .before .before .before .before .before .before .before .before .before .before .before .before .before .before .before .before .before .before .before .before .before .before .before .pre .0, fewer table start (a .bound) (a .i) (p .0) (p .1 .0) (p .1 .1) (c .before .before .before .before .before .before .before .before .before .before .before .before .before .wide .result) (c .before .before .before .before .before .before .before .before .before .before .before .wide2 .result) (c .before .before .before .before .before .before .before .before .before .before .before .before .before .wide .ensures) (c .before .before .before .before .before .before .before .before .before .before .before .wide2 .ensures) (c .before .before .before .before .before .before .before .before .unlink .last .1 .1 .0) (c .before .before .before .before .before .before .before .before .unlink .last .1 .1 .1 .0) (c .before .before .before .before .before .before .before .before .unlink .ensures .0) (c .before .before .before .before .before .before .before .before .unlink .ensures .1)),
-      (
-        fit-without table start (a .bound) (a .i) (p .0) (p .1 .0) (p .1 .1) (c .before .before .before .before .before .before .before .before .before .before .before .before .before .wide .result) (c .before .before .before .before .before .before .before .before .before .before .before .wide2 .result) (c .before .before .before .before .before .before .before .before .before .before .before .before .before .wide .ensures) (c .before .before .before .before .before .before .before .before .before .before .before .wide2 .ensures) (c .before .before .before .before .before .before .before .before .unlink .last .1 .1 .0) (c .before .before .before .before .before .before .before .before .unlink .last .1 .1 .1 .0) (c .before .before .before .before .before .before .before .before .unlink .ensures .0) (c .before .before .before .before .before .before .before .before .unlink .ensures .1) (c .before .before .before .before .before .before .before .before .before .before .before .before .before .before .before .before .before .before .before .before .length-in .result) o (omega (arith, c .before .before .before .before .before .before .before .before .before .before .before .before .before .before .before .before .before .before .before .before .length-in .ensures, p .1 .2)),
-        (omega (arith, c .before .before .before .before .before .before .before .before .before .before .before .before .before .before .before .target-in .ensures, p .0 .numbered .owned .few, p .0 .numbered .target (a .i) (p .1 .0) (omega (arith, c .before .before .before .before .before .before .before .before .before .before .before .before .before .before .before .before .if1 .left))), c .before .before .before .before .before .before .wide3 .ensures),
-      ),
-    )
-
--- the search from the record, or nothing where its target has no unused record: the links are as it found them
-step-left : (t : ℕ) (c : step-lts.Joined2 (step-claims t) (step-at t) step.Post) → (
-    let a = c .before .before .before .before .before .before .before .before .before .before .before .before .before .before .before .before .before .before .before .before .args in
-    let table = records (a .owners .now) (a .fields .now) in
-    let start = memory (a .next .now) (a .prev .now) (a .out .now) (a .lives .now) (a .figures .now) (a .left) in
-    let p = c .before .before .before .before .before .before .before .before .before .before .before .before .before .before .before .before .before .before .before .before .pre .1 in
-    let W = without table start (a .bound) (a .i) (p .0) (p .1 .0) (p .1 .1) (c .before .before .before .before .before .before .before .before .wide .result) (c .before .before .before .before .before .before .wide2 .result) (c .before .before .before .before .before .before .before .before .wide .ensures) (c .before .before .before .before .before .before .wide2 .ensures) (c .before .before .before .unlink .last .1 .1 .0) (c .before .before .before .unlink .last .1 .1 .1 .0) (c .before .before .before .unlink .ensures .0) (c .before .before .before .unlink .ensures .1) in
-    Done W (memory (c .if2 .next) (c .if2 .prev) (c .if2 .out) (c .if2 .lives) (c .if2 .figures) (c .if2 .r))
-    (searchOf table (c .before .before .before .before .before .before .before .before .before .before .target-in .result) (c .before .before .before .before .before .before .before .before .before .before .before .before .before .before .before .length-in .result) (addressOf (c .before .before .before .before .before .before .before .before .before .before .before .before .before .before .joined .result .high) (c .before .before .before .before .before .before .before .before .before .before .before .before .before .before .joined .result .low)) (c .before .before .before .before .before .before .before .before .before .before .before .before .lesser .result) W))
-step-left t c =
-    let a = c .before .before .before .before .before .before .before .before .before .before .before .before .before .before .before .before .before .before .before .before .args in
-    let table = records (a .owners .now) (a .fields .now) in
-    let start = memory (a .next .now) (a .prev .now) (a .out .now) (a .lives .now) (a .figures .now) (a .left) in
-    let p = c .before .before .before .before .before .before .before .before .before .before .before .before .before .before .before .before .before .before .before .before .pre .1 in
-    let o : 0 < c .before .before .before .before .before .before .before .before .before .before .before .before .before .before .before .length-in .result = omega (arith, c .before .before .before .before .before .before .before .before .before .before .before .if1 .left) in
-    let j = c .if2 in
-    let m′ = memory (j .next) (j .prev) (j .out) (j .lives) (j .figures) (j .r) in
-    let v = addressOf (c .before .before .before .before .before .before .before .before .before .before .before .before .before .before .joined .result .high) (c .before .before .before .before .before .before .before .before .before .before .before .before .before .before .joined .result .low) in
-    let W = without table start (a .bound) (a .i) (p .0) (p .1 .0) (p .1 .1) (c .before .before .before .before .before .before .before .before .wide .result) (c .before .before .before .before .before .before .wide2 .result) (c .before .before .before .before .before .before .before .before .wide .ensures) (c .before .before .before .before .before .before .wide2 .ensures) (c .before .before .before .unlink .last .1 .1 .0) (c .before .before .before .unlink .last .1 .1 .1 .0) (c .before .before .before .unlink .ensures .0) (c .before .before .before .unlink .ensures .1) in
-    let S = searchOf table (c .before .before .before .before .before .before .before .before .before .before .target-in .result) (c .before .before .before .before .before .before .before .before .before .before .before .before .before .before .before .length-in .result) v (c .before .before .before .before .before .before .before .before .before .before .before .before .lesser .result) W in
-    ⊎-elim
-    (λ w. done-as W _ m′ S (memory-eq (w .11) (w .12) (w .13) (w .14) (w .15) (w .16)) (w .6 .ensures))
-    (λ w. done-as W W m′ S (memory-eq (w .1) (w .2) (w .3) (w .4) (w .5) (w .6))
-    (nothing table start (a .bound) (a .i) (p .0) (p .1 .0) (p .1 .1) (c .before .before .before .before .before .before .before .before .wide .result) (c .before .before .before .before .before .before .wide2 .result) (c .before .before .before .before .before .before .before .before .wide .ensures) (c .before .before .before .before .before .before .wide2 .ensures) (c .before .before .before .unlink .last .1 .1 .0) (c .before .before .before .unlink .last .1 .1 .1 .0) (c .before .before .before .unlink .ensures .0) (c .before .before .before .unlink .ensures .1) (c .before .before .before .before .before .before .before .before .before .before .target-in .result) (c .before .before .before .before .before .before .before .before .before .before .before .before .before .before .before .length-in .result) v (c .before .before .before .before .before .before .before .before .before .before .before .before .lesser .result) o (omega (arith, c .before .before .before .before .before .before .before .before .before .before .before .before .before .before .before .length-in .ensures, p .1 .2)) (omega (arith, c .before .before .before .before .before .before .before .before .before .before .target-in .ensures, p .0 .numbered .owned .few, p .0 .numbered .target (a .i) (p .1 .0) (omega (arith, c .before .before .before .before .before .before .before .before .before .before .before .if1 .left)))) (omega (arith, c .before .wide3 .ensures, w .0 .left))))
-    (j .came)
-
-step-relink-requires : (t : ℕ) → step-lts.Need-relink-requires (step-claims t) (step-at t) step.Post
-step-relink-requires t c κs =
-    let a = c .before .before .before .before .before .before .before .before .before .before .before .before .before .before .before .before .before .before .before .before .before .before .args in
-    let table = records (a .owners .now) (a .fields .now) in
-    let start = memory (a .next .now) (a .prev .now) (a .out .now) (a .lives .now) (a .figures .now) (a .left) in
-    let p = c .before .before .before .before .before .before .before .before .before .before .before .before .before .before .before .before .before .before .before .before .before .before .pre .1 in
-    let o : 0 < c .before .before .before .before .before .before .before .before .before .before .before .before .before .before .before .before .before .length-in .result = omega (arith, c .before .before .before .before .before .before .before .before .before .before .before .before .before .if1 .left) in
-    let j = c .before .before .if2 in
-    let m′ = memory (j .next) (j .prev) (j .out) (j .lives) (j .figures) (j .r) in
-    let v = addressOf (c .before .before .before .before .before .before .before .before .before .before .before .before .before .before .before .before .joined .result .high) (c .before .before .before .before .before .before .before .before .before .before .before .before .before .before .before .before .joined .result .low) in
-    let W = without table start (a .bound) (a .i) (p .0) (p .1 .0) (p .1 .1) (c .before .before .before .before .before .before .before .before .before .before .wide .result) (c .before .before .before .before .before .before .before .before .wide2 .result) (c .before .before .before .before .before .before .before .before .before .before .wide .ensures) (c .before .before .before .before .before .before .before .before .wide2 .ensures) (c .before .before .before .before .before .unlink .last .1 .1 .0) (c .before .before .before .before .before .unlink .last .1 .1 .1 .0) (c .before .before .before .before .before .unlink .ensures .0) (c .before .before .before .before .before .unlink .ensures .1) in
-    let S = searchOf table (c .before .before .before .before .before .before .before .before .before .before .before .before .target-in .result) (c .before .before .before .before .before .before .before .before .before .before .before .before .before .before .before .before .before .length-in .result) v (c .before .before .before .before .before .before .before .before .before .before .before .before .before .before .lesser .result) W in
-    let d = step-left t (c .before .before) in
-    let g = still-long table start (a .bound) (a .i) (p .0) (p .1 .0) (p .1 .1) (c .before .before .before .before .before .before .before .before .before .before .wide .result) (c .before .before .before .before .before .before .before .before .wide2 .result) (c .before .before .before .before .before .before .before .before .before .before .wide .ensures) (c .before .before .before .before .before .before .before .before .wide2 .ensures) (c .before .before .before .before .before .unlink .last .1 .1 .0) (c .before .before .before .before .before .unlink .last .1 .1 .1 .0) (c .before .before .before .before .before .unlink .ensures .0) (c .before .before .before .before .before .unlink .ensures .1) m′ S d in
-    (g .0, g .1, p-node table start (a .bound) (a .i) (p .0) (p .1 .0) (p .1 .1) (c .before .before .before .before .before .before .before .before .before .before .wide .result) (c .before .before .before .before .before .before .before .before .wide2 .result) (c .before .before .before .before .before .before .before .before .before .before .wide .ensures) (c .before .before .before .before .before .before .before .before .wide2 .ensures), q-node table start (a .bound) (a .i) (p .0) (p .1 .0) (p .1 .1) (c .before .before .before .before .before .before .before .before .before .before .wide .result) (c .before .before .before .before .before .before .before .before .wide2 .result) (c .before .before .before .before .before .before .before .before .before .before .wide .ensures) (c .before .before .before .before .before .before .before .before .wide2 .ensures), omega (arith, p .0 .numbered .owned .few, p .1 .0))
-
-step-same-length-3 : (t : ℕ) → step-lts.Need-same-length-3 (step-claims t) (step-at t) step.Post
-step-same-length-3 t c = ⊎-elim (λ w. ap length (w .13) ∙ w .6 .kept .1 .1 .1 .1 .1 .1 .1 .1 .1 .1 .0) (λ w. ap length (w .3)) (c .before .before .before .if2 .came)
-
-step-same-length-4 : (t : ℕ) → step-lts.Need-same-length-4 (step-claims t) (step-at t) step.Post
-step-same-length-4 t c = ⊎-elim (λ w. ap length (w .14) ∙ w .6 .kept .1 .1 .1 .1 .1 .1 .1 .1 .1 .1 .1 .0) (λ w. ap length (w .4)) (c .before .before .before .if2 .came)
-
-step-returns-2 : (t : ℕ) → step-lts.Need-returns-2 (step-claims t) (step-at t) step.Post
-step-returns-2 t c =
-    let a = c .before .before .before .before .before .before .before .before .before .before .before .before .before .before .before .before .before .before .before .before .before .before .before .args in
-    let table = records (a .owners .now) (a .fields .now) in
-    let start = memory (a .next .now) (a .prev .now) (a .out .now) (a .lives .now) (a .figures .now) (a .left) in
-    let p = c .before .before .before .before .before .before .before .before .before .before .before .before .before .before .before .before .before .before .before .before .before .before .before .pre .1 in
-    let o : 0 < c .before .before .before .before .before .before .before .before .before .before .before .before .before .before .before .before .before .before .length-in .result = omega (arith, c .before .before .before .before .before .before .before .before .before .before .before .before .before .before .if1 .left) in
-    let j = c .before .before .before .if2 in
-    let m′ = memory (j .next) (j .prev) (j .out) (j .lives) (j .figures) (j .r) in
-    let v = addressOf (c .before .before .before .before .before .before .before .before .before .before .before .before .before .before .before .before .before .joined .result .high) (c .before .before .before .before .before .before .before .before .before .before .before .before .before .before .before .before .before .joined .result .low) in
-    let W = without table start (a .bound) (a .i) (p .0) (p .1 .0) (p .1 .1) (c .before .before .before .before .before .before .before .before .before .before .before .wide .result) (c .before .before .before .before .before .before .before .before .before .wide2 .result) (c .before .before .before .before .before .before .before .before .before .before .before .wide .ensures) (c .before .before .before .before .before .before .before .before .before .wide2 .ensures) (c .before .before .before .before .before .before .unlink .last .1 .1 .0) (c .before .before .before .before .before .before .unlink .last .1 .1 .1 .0) (c .before .before .before .before .before .before .unlink .ensures .0) (c .before .before .before .before .before .before .unlink .ensures .1) in
-    let S = searchOf table (c .before .before .before .before .before .before .before .before .before .before .before .before .before .target-in .result) (c .before .before .before .before .before .before .before .before .before .before .before .before .before .before .before .before .before .before .length-in .result) v (c .before .before .before .before .before .before .before .before .before .before .before .before .before .before .before .lesser .result) W in
-    let d = step-left t (c .before .before .before) in
-    done-unfinished table start (a .bound) (a .i) (p .0) (p .1 .0) (p .1 .1) (c .before .before .before .before .before .before .before .before .before .before .before .wide .result) (c .before .before .before .before .before .before .before .before .before .wide2 .result) (c .before .before .before .before .before .before .before .before .before .before .before .wide .ensures) (c .before .before .before .before .before .before .before .before .before .wide2 .ensures) (c .before .before .before .before .before .before .unlink .last .1 .1 .0) (c .before .before .before .before .before .before .unlink .last .1 .1 .1 .0) (c .before .before .before .before .before .before .unlink .ensures .0) (c .before .before .before .before .before .before .unlink .ensures .1) m′ S d (addressOf (a .high) (a .low)) v (c .before .before .before .before .before .before .before .before .before .before .before .before .before .before .before .before .before .before .length-in .result) (a .ttl) (c .before .before .before .before .before .before .before .before .before .before .before .before .before .before .before .lesser .result) (c .before .before .before .before .before .before .before .before .before .before .before .before .before .target-in .result) (p .1 .3) (omega (arith, c .before .before .before .before .before .before .before .before .before .before .before .before .before .before .before .before .before .before .length-in .ensures, o)) (c .before .before .before .before .before .before .before .before .before .before .before .before .before .target-in .ensures) (c .before .before .before .before .before .before .before .before .before .before .before .before .before .before .before .before .before .before .length-in .ensures) (c .before .before .before .before .before .before .before .before .before .before .before .before .before .before .before .before .before .joined .ensures) (c .before .before .before .before .before .before .before .before .before .before .before .before .before .before .before .lesser .ensures ∙ ap (min (a .ttl)) (c .before .before .before .before .before .before .before .before .before .before .before .before .before .before .before .before .ttl-in .ensures)) refl
-    (c .relink .last .1 .1 .1 .0) (c .relink .last .1 .1 .1 .1 .0) (c .relink .ensures .0) (c .relink .ensures .1)
+  step-returns-2 : step-lts.Need-returns-2 (step-claims t) (step-at t) step.Post
+  step-returns-2 c =
+      let s = c .before .before .before .before .before .before .before .before .before .before .before .before .before .before .before .before .before .before .before .before .before .before .before in
+      done-unfinished (given s) (taken (c .before .before .before .before .before .before)) (bits′ s) (s .args .ttl) (left-here (c .before .before .before)) (been (c .before .before .before)) (unfinished (c .before .before .before .before .before .before .before .before .before .before .before .before .before .before))
+      (c .relink .last .1 .1 .1 .0) (c .relink .last .1 .1 .1 .1 .0) (c .relink .ensures .0) (c .relink .ensures .1)
 
 pub +search+step-spec : {M : Type 1} → statement M
 +search+step-spec = close μ-search μ-step (λ t. search-lts.spec (search-claims t)
