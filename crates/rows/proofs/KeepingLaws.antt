@@ -1,7 +1,7 @@
 -- What is kept after some chains: the addresses that they spell, ascending and each once, or too many of them for the room. Assumes nothing.
 use Prim.Native.Nat.{ℕ, zero, suc, _+_, _-_, _*_, _/_, _≤_, _<_}
 use mathlib.Core.Path.{_≡_, refl, sym, ap, subst, _∙_}
-use mathlib.Core.Logic.{_⊎_, inl, inr, ⊎-elim}
+use mathlib.Core.Logic.{inl, inr, ⊎-elim}
 use mathlib.Core.Bool.{true, false}
 use mathlib.Core.List.{List, [], _∷_, _++_, append-assoc}
 use native.Mathlib.Decide.{decLt}
@@ -11,7 +11,7 @@ use lib.Seq.{take-at, drop-at, drop-append-add}
 use Rattle.octets.proofs.FlatLaws.{each-drop, flat-length, flat-append, flat-take, flat-drop, flat-at}
 use Rattle.chains.proofs.ListLaws.{in-at}
 use Rattle.octets.specs.Octets.{blank, flat, Each}
-use Rattle.octets.proofs.BoolLaws.{refuted}
+use Rattle.octets.proofs.BoolLaws.{clash, refuted}
 use Rattle.octets.proofs.OctetLaws.{length-blank}
 use Rattle.address.specs.declared.Order.{Order}
 use Rattle.address.specs.declared.Order.the-variants.{Before, Same, After}
@@ -223,7 +223,7 @@ module _ (room : ℕ) (v : List ℕ) (t : ℕ) (l : List (List ℕ)) (s : Kept) 
     added = record { out = putAt 16 (k * 16) (s .count * 16) v (s .out); lives = putAt 1 k (s .count) (t ∷ []) (s .lives); count = s .count + 1; full = false }
 
     abbrev pub past : Kept
-    past = record { out = s .out; lives = s .lives; count = 0; full = true }
+    past = record { out = s .out; lives = s .lives; count = s .count; full = true }
 
     pub keep-cases : (P : Kept → Type 0)
         → (k < length l → orderOf (getD l k []) v ≡ Same → P (again k))
@@ -266,7 +266,7 @@ module _ (room : ℕ) (v : List ℕ) (t : ℕ) (l : List (List ℕ)) (s : Kept) 
         over m q = record {
           rows = insert-rows v l n (h .rows);
           ascending = insert-ascending v l (h .ascending);
-          stands = inr (refl, refl, omega (arith, longer m));
+          stands = inr (refl, omega (arith, longer m));
         }
 
   -- keeping v keeps this true of the list with v
@@ -277,7 +277,7 @@ module _ (room : ℕ) (v : List ℕ) (t : ℕ) (l : List (List ℕ)) (s : Kept) 
       subst (λ (c : Kept). Holds room (insert v l) c) (keep-full v t s (w .0)) record {
         rows = insert-rows v l n (h .rows);
         ascending = insert-ascending v l (h .ascending);
-        stands = inr (w .0, w .1, omega (arith, w .2, insert-length v l .0));
+        stands = inr (w .0, omega (arith, w .1, insert-length v l .0));
       })
       (h .stands)
 
@@ -286,7 +286,7 @@ pub keep-ordered : (v : List ℕ) (t : ℕ) (s : Kept) → length v ≡ 16 → O
 keep-ordered v t s n o = record { room = o .room; list = insert v (o .list); holds = keep-holds (o .room) v t (o .list) s n (o .holds) }
 
 -- an address that stands in a row: only its lifetime may change
-pub keep-met : (v : List ℕ) (t : ℕ) (s : Kept) → length v ≡ 16 → Ordered s → (j : ℕ) → j < s .count → isSame (orderOf (row (s .out) j) v) ≡ true
+pub keep-met : (v : List ℕ) (t : ℕ) (s : Kept) → length v ≡ 16 → Ordered s → s .full ≡ false → (j : ℕ) → j < s .count → isSame (orderOf (row (s .out) j) v) ≡ true
     → record { out = s .out; lives = lowered j t (s .lives); count = s .count; full = s .full } ≡ keepIn v t s
-keep-met v t s n o j h e =
-    ⊎-elim (λ w. there (o .room) v t (o .list) s n (o .holds) (w .0) (w .1) (w .2) (w .3) j h e) (λ w. absurd (omega (arith, w .1))) (o .holds .stands)
+keep-met v t s n o lax j h e =
+    ⊎-elim (λ w. there (o .room) v t (o .list) s n (o .holds) (w .0) (w .1) (w .2) (w .3) j h e) (λ w. absurd (clash (w .0) lax)) (o .holds .stands)

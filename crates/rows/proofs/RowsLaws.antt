@@ -6,7 +6,7 @@ use mathlib.Core.Bool.{Bool, true, false, _&&_}
 use mathlib.Core.List.{List, [], _∷_, _++_, append-assoc, append-nil}
 use native.Mathlib.Omega.{arith}
 use lib.Dec.{ltb, eqb}
-use lib.ListN.{length, getD, set, take, drop, length-append, length-drop, length-set, take-append-drop, List·getD-append}
+use lib.ListN.{length, getD, set, take, drop, length-append, length-drop, take-append-drop, List·getD-append}
 use lib.Seq.{drop-cons, drop-drop, getD-take, getD-set-same, getD-set-other, take-suc, take-take, take-all, take-append-le, append-snoc, length-take-le, set-at, set-getD, drop-at, paste, take-paste, drop-paste}
 use types.Run.{OneOf}
 use denote.Enum.Declared.{tagOf}
@@ -208,7 +208,7 @@ module _ (v : List ℕ) (t : ℕ) (s : Kept) where
       unfolding keepAt
       keep-new l = rw (absent, le-leb (s .count * 16 + 16) (length (s .out)) l)
 
-      pub keep-over : length (s .out) < s .count * 16 + 16 → record { out = s .out; lives = s .lives; count = 0; full = true } ≡ keepAt k v t s
+      pub keep-over : length (s .out) < s .count * 16 + 16 → record { out = s .out; lives = s .lives; count = s .count; full = true } ≡ keepAt k v t s
       unfolding keepAt
       keep-over l = rw (absent, lt-leb (s .count * 16 + 16) (length (s .out)) l)
 
@@ -236,9 +236,8 @@ module _ (v : List ℕ) (t : ℕ) (out lives figures : List ℕ) (places : lengt
         ap (λ (b : ℕ). eqb b 1) (getD-set-other figures 0 1 (count + 1) 0 (λ z. omega arith)) ∙ h in
         (λ i. record { out = q i; lives = r i; count = c i; full = f i }) ∙ keep-new v t (kept out lives figures) k n l
 
-    pub kept-over : length out < count * 16 + 16 → kept out lives (set (set figures 0 0) 1 1) ≡ keepAt k v t (kept out lives figures)
+    pub kept-over : length out < count * 16 + 16 → kept out lives (set figures 1 1) ≡ keepAt k v t (kept out lives figures)
     kept-over l =
-        let m : length (set figures 0 0) ≡ maxFigures = length-set figures 0 0 ∙ places in
-        let c : getD (set (set figures 0 0) 1 1) 0 0 ≡ 0 = getD-set-other (set figures 0 0) 1 0 1 0 (λ z. omega arith) ∙ getD-set-same figures 0 0 0 (omega arith) in
-        let f : eqb (getD (set (set figures 0 0) 1 1) 1 0) 1 ≡ true = ap (λ (b : ℕ). eqb b 1) (getD-set-same (set figures 0 0) 1 1 0 (omega arith)) in
+        let c = getD-set-other figures 1 0 1 0 (λ z. omega arith) in
+        let f : eqb (getD (set figures 1 1) 1 0) 1 ≡ true = ap (λ (b : ℕ). eqb b 1) (getD-set-same figures 1 1 0 (omega arith)) in
         (λ i. record { out = out; lives = lives; count = c i; full = f i }) ∙ keep-over v t (kept out lives figures) k n l

@@ -67,26 +67,24 @@ isSame Same = true
 isSame After = false
 
 -- v at the row k with the lifetime t; where it stands there, its lifetime becomes t if that is less; where there is no room, that is marked
--- and the rows count for nothing
 unfoldable pub keepAt : ℕ → List ℕ → ℕ → Kept → Kept
 keepAt k v t s =
     pick (ltb k (s .count) && isSame (orderOf (row (s .out) k) v))
     (record { out = s .out; lives = lowered k t (s .lives); count = s .count; full = s .full })
     (pick (leb (s .count * 16 + 16) (length (s .out)))
     (record { out = putAt 16 (k * 16) (s .count * 16) v (s .out); lives = putAt 1 k (s .count) (t ∷ []) (s .lives); count = s .count + 1; full = false })
-    (record { out = s .out; lives = s .lives; count = 0; full = true }))
+    (record { out = s .out; lives = s .lives; count = s .count; full = true }))
 
 -- v in its place; once there was no room nothing is kept
 unfoldable pub keepIn : List ℕ → ℕ → Kept → Kept
 keepIn v t s = pick (s .full) s (keepAt (seek (s .count) (s .out) v 0 (s .count)) v t s)
 
--- the list l, which ascends, stands in the rows, of which there are `room`, with zeros after it, or is longer than that; then the mark is set
--- and no row counts, so that no hint is below the count
+-- the list l, which ascends, stands in the rows, of which there are `room`, with zeros after it, or is longer than that
 pub record Holds (room : ℕ) (l : List (List ℕ)) (s : Kept) : Type 0 where
   pub rows : Each 16 l
   pub ascending : Ascending l
   pub stands : ((s .full ≡ false) × (s .count ≡ length l) × (length l ≤ room) × (s .out ≡ flat l ++ blank ((room - length l) * 16)))
-      ⊎ ((s .full ≡ true) × (s .count ≡ 0) × (room < length l))
+      ⊎ ((s .full ≡ true) × (room < length l))
 
 -- some list does
 pub record Ordered (s : Kept) : Type 0 where

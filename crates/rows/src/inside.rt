@@ -116,8 +116,7 @@ fn lower(lives: &mut [u32], k: usize, ttl: u32)
     }
 }
 
-// Puts an address at the row k with its lifetime; where it stands there, the lesser lifetime stays; where there is no room, that is marked
-// and the rows count for nothing.
+// Puts an address at the row k with its lifetime; where it stands there, the lesser lifetime stays; where there is no room, that is marked.
 fn keep_at(
     out: &mut [u8],
     lives: &mut [u32],
@@ -146,7 +145,6 @@ fn keep_at(
         figures[0] = count + 1;
         return;
     }
-    figures[0] = 0;
     figures[1] = 1;
 }
 
@@ -179,8 +177,16 @@ fn spot_of(high: u64, low: u64) -> usize
     (b % 4294967296 * 2654435761 / 16777216) as usize % HINTS
 }
 
+// Whether there was no room for an address: nothing is kept any more.
+pub fn is_full(figures: &[usize; FIGURES]) -> bool
+    requires { ⌜ length (now figures) ≡ maxFigures ⌝ }
+    ensures { λ r. ⌜ r ≡ eqb (getD (now (figures .entry)) 1 0) 1 ⌝ }
+{
+    figures[1] == 1
+}
+
 // Keeps an address in its place with its lifetime, the lesser one where it is there; where there is no room, that is marked. The row of the
-// hint mostly is the address; if not, the address is sought. Once the mark is set no hint is below the count, so the hint may come first.
+// hint mostly is the address; if not, the address is sought.
 pub fn keep(
     out: &mut [u8],
     lives: &mut [u32],
@@ -189,7 +195,7 @@ pub fn keep(
     low: u64,
     ttl: u32,
 )
-    requires { ⌜ (length (now figures) ≡ maxFigures) × (getD (now figures) 0 0 * 16 ≤ length (now out)) × (length (now lives) * 16 ≡ length (now out)) × Ordered (kept (now out) (now lives) (now figures)) ⌝ }
+    requires { ⌜ (length (now figures) ≡ maxFigures) × (getD (now figures) 0 0 * 16 ≤ length (now out)) × (length (now lives) * 16 ≡ length (now out)) × Ordered (kept (now out) (now lives) (now figures)) × (eqb (getD (now figures) 1 0) 1 ≡ false) ⌝ }
     ensures { λ _. ⌜ (kept (now (out .exit)) (now (lives .exit)) (now (figures .exit)) ≡ keepIn (addressOf high low) ttl (kept (now (out .entry)) (now (lives .entry)) (now (figures .entry)))) × (length (now (figures .exit)) ≡ maxFigures) × (getD (now (figures .exit)) 0 0 * 16 ≤ length (now (out .entry))) ⌝ }
 {
     let count = figures[0];
@@ -200,9 +206,6 @@ pub fn keep(
             lower(lives, hint, ttl);
             return;
         }
-    }
-    if figures[1] == 1 {
-        return;
     }
     keep_sought(out, lives, figures, spot, high, low, ttl);
 }

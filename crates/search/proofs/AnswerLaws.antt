@@ -7,7 +7,7 @@ use mathlib.Core.List.{List, [], _∷_, _++_}
 use native.Mathlib.Decide.{decLt}
 use native.Mathlib.Omega.{arith}
 use lib.Dec.{eqb}
-use lib.ListN.{length, getD, replicate}
+use lib.ListN.{length, replicate}
 use borrow.Author.Tests.{lt-ltb, le-ltb, eqb-true}
 use Rattle.octets.specs.Octets.{blank, same, flat}
 use Rattle.octets.specs.Answers.{answering, refusal}
@@ -163,7 +163,7 @@ module _ {N : Type 0} (g : Graph N) (sound : Sound g) (x : N) (limit room : ℕ)
     unfolding numberOf
     found-full h =
         ⊎-elim (λ k. absurd (let q : _≡_ {A = ℕ} 0 1 = cc (h, k .0) in omega arith))
-        (λ k. rw (le-ltb limit (workOf g x) few, lt-ltb room (length (addressesOf g x)) (k .2))) (within few .1 .stands)
+        (λ k. rw (le-ltb limit (workOf g x) few, lt-ltb room (length (addressesOf g x)) (k .1))) (within few .1 .stands)
 
     -- all was counted and all is kept: 0
     record All : Type 0 where

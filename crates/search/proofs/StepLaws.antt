@@ -35,13 +35,13 @@ onward r m bound i a c k = searchOf r (targetOf r i) (lengthOf r i) (joinOf (add
 
 module _ {r : Records} {m : Memory} {bound i : ℕ} (o : Ready r m bound i) where
   -- ---- into a finished record
-  pub done-finished : (a v out lives figures : List ℕ) (c t : ℕ) → lengthOf r i ≡ 0 → v ≡ joinOf (addressIn (r .fields) i) a bound → t ≡ min c (ttlOf r i)
-      → kept out lives figures ≡ keepIn v t (kept (m .out) (m .lives) (m .figures)) → length figures ≡ maxFigures → getD figures 0 0 * 16 ≤ length (m .out)
+  pub done-finished : (a out lives figures : List ℕ) (c : ℕ) → lengthOf r i ≡ 0
+      → kept out lives figures ≡ keepIn (joinOf (addressIn (r .fields) i) a bound) (min c (ttlOf r i)) (kept (m .out) (m .lives) (m .figures)) → length figures ≡ maxFigures → getD figures 0 0 * 16 ≤ length (m .out)
       → Done m (memory (m .next) (m .prev) out lives figures (m .left - 1)) (stepOf r i bound a c m)
-  done-finished a v out lives figures c t e j y k q l = record {
+  done-finished a out lives figures c e k q l = record {
     next = refl;
     prev = refl;
-    state = (λ z. (m .left - 1, (k ∙ λ x. keepIn (j x) (y x) (kept (m .out) (m .lives) (m .figures))) z)) ∙ sym (stepped-end (graphOf r) (unusedOf r m) i bound a c (stateOf m) (o .counts) e);
+    state = (λ z. (m .left - 1, k z)) ∙ sym (stepped-end (graphOf r) (unusedOf r m) i bound a c (stateOf m) (o .counts) e);
     places = q;
     room = l;
   }

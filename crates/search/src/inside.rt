@@ -1,11 +1,12 @@
 // What only our own layers call: the search for the addresses of a numbered name.
 ghost use mathlib.Core.Path.{_≡_};
-ghost use Prim.Native.Nat.{_+_, _*_, _/_, _%_, _^_, _≤_, _<_};
+ghost use Prim.Native.Nat.{_+_, _*_, _/_, _%_, _^_, _≤_, _<_, min};
 ghost use lib.ListN.{length, getD};
 ghost use Rattle.octets.specs.Octets.{blank};
 ghost use Rattle.octets.specs.Answers.{refusal};
 ghost use Rattle.address.specs.Address.{joinOf};
 ghost use Rattle.rows.specs.Halves.{addressOf};
+ghost use Rattle.rows.specs.Rows.{maxFigures, kept, keepIn, Ordered};
 ghost use Rattle.search.specs.Search.{maxRecords, headOf, targetIn, lengthIn, ttlIn, records, addressIn, graphOf};
 ghost use Rattle.search.specs.Links.{maxNames, Numbered, memory, searchOf, stepOf, Fit, Ready, Done};
 ghost use Rattle.search.specs.Answers.{foundOf, writtenOf, lastingOf};
@@ -88,6 +89,32 @@ fn ttl_in(head: u64) -> u32
     (head / 16777216 % 4294967296) as u32
 }
 
+// Keeps what a chain spells that ends with the record i, with the least TTL of its records; nothing once there was no room.
+fn finish(
+    fields: &[u64; FIELDS],
+    i: usize,
+    bound: u8,
+    high: u64,
+    low: u64,
+    ttl: u32,
+    out: &mut [u8],
+    lives: &mut [u32],
+    figures: &mut [usize; FIGURES],
+)
+    requires { ⌜ (i < maxRecords) × (0 < bound) × (bound ≤ 128) ⌝ }
+    requires { ⌜ (length (now figures) ≡ maxFigures) × (getD (now figures) 0 0 * 16 ≤ length (now out)) × (length (now lives) * 16 ≡ length (now out)) × Ordered (kept (now out) (now lives) (now figures)) ⌝ }
+    ensures { λ _. ⌜ (kept (now (out .exit)) (now (lives .exit)) (now (figures .exit)) ≡ keepIn (joinOf (addressIn (now (fields .entry)) i) (addressOf high low) bound) (min ttl (ttlIn (getD (now (fields .entry)) i 0))) (kept (now (out .entry)) (now (lives .entry)) (now (figures .entry)))) × (length (now (figures .exit)) ≡ maxFigures) × (getD (now (figures .exit)) 0 0 * 16 ≤ length (now (out .entry))) ⌝ }
+{
+    if rows::inside::is_full(figures) {
+        return;
+    }
+    let a = joined(fields, i, high, low, bound);
+    let h = a.high;
+    let l = a.low;
+    let t = octets::numbers::lesser(ttl, ttl_in(fields[i]));
+    rows::inside::keep(out, lives, figures, h, l, t);
+}
+
 // Into the record i, which is unused: it is out of its list while the search goes on from it. Of the chains that may still be counted, `left`,
 // it answers what is left.
 fn step(
@@ -110,15 +137,15 @@ fn step(
 {
     let head = fields[i];
     let length = length_in(head);
+    let rest = left - 1;
+    if length == 0 {
+        finish(fields, i, bound, high, low, ttl, out, lives, figures);
+        return rest;
+    }
     let a = joined(fields, i, high, low, bound);
     let h = a.high;
     let l = a.low;
     let t = octets::numbers::lesser(ttl, ttl_in(head));
-    let rest = left - 1;
-    if length == 0 {
-        rows::inside::keep(out, lives, figures, h, l, t);
-        return rest;
-    }
     let x = target_in(head);
     let p = octets::numbers::wide(prev[i]);
     let q = octets::numbers::wide(next[i]);

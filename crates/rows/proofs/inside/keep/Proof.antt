@@ -3,14 +3,11 @@ use Prim.Native.Nat.{ℕ}
 use mathlib.Core.Path.{sym, ap, _∙_}
 use mathlib.Core.List.{List}
 use native.Mathlib.Omega.{arith}
-use lib.ListN.{getD}
-use borrow.Author.Tests.{eq-eqb, ne-eqb}
 use borrow.Author.Needs.{needs}
 use Rattle.rows.specs.Halves.{addressOf}
 use Rattle.rows.specs.Rows.{kept}
 use Rattle.rows.proofs.HalvesLaws.{address-length}
 use Rattle.rows.proofs.KeepingLaws.{keep-met}
-use Rattle.rows.proofs.RowsLaws.{keep-full}
 use Rattle.rows.proofs.inside.keep.Statement.{statement}
 use Rattle.rows.proofs.inside.keep.Tie as tie
 
@@ -48,26 +45,17 @@ returns : tie.Need-returns
 returns c =
     let a = c .before .before .before .before .before .before .before .before .before .before .before .before .before .args in
     let p = c .before .before .before .before .before .before .before .before .before .before .before .before .before .pre in (
-      ap (λ (l : List ℕ). kept (a .out .now) l (a .figures .now)) (c .before .before .lower .ensures) ∙ keep-met (addressOf (a .high) (a .low)) (a .ttl) (kept (a .out .now) (a .lives .now) (a .figures .now)) (address-length (a .high) (a .low)) (p .3) _ (c .before .before .before .before .before .before .before .if1 .taken) (sym (c .before .before .before .before .before .is-at .ensures) ∙ c .before .before .before .before .if2 .taken),
+      ap (λ (l : List ℕ). kept (a .out .now) l (a .figures .now)) (c .before .before .lower .ensures) ∙ keep-met (addressOf (a .high) (a .low)) (a .ttl) (kept (a .out .now) (a .lives .now) (a .figures .now)) (address-length (a .high) (a .low)) (p .3) (p .4) _ (c .before .before .before .before .before .before .before .if1 .taken) (sym (c .before .before .before .before .before .is-at .ensures) ∙ c .before .before .before .before .if2 .taken),
       p .0,
       p .1,
     )
 
-element-copy-out-if3 : tie.Need-element-copy-out-if3
-element-copy-out-if3 c = search needs
-
-returns-2 : tie.Need-returns-2
-returns-2 c =
-    let a = c .before .before .before .before .before .before .before .before .args in
-    let p = c .before .before .before .before .before .before .before .before .pre in
-    (keep-full (addressOf (a .high) (a .low)) (a .ttl) (kept (a .out .now) (a .lives .now) (a .figures .now)) (eq-eqb (getD (a .figures .now) 1 0) 1 (c .if3 .taken)), p .0, p .1)
-
 keep-sought-requires : tie.Need-keep-sought-requires
 keep-sought-requires c κs =
-    let a = c .before .before .before .before .before .before .before .before .before .before .before .args in
-    let p = c .before .before .before .before .before .before .before .before .before .before .before .pre in
-    let l = c .before .before .before .before .before .before .before .spot-of .ensures in
-    ((p .0, p .1, p .2), (omega arith, omega arith, ne-eqb (getD (a .figures .now) 1 0) 1 (c .before .before .before .if3 .left)))
+    let a = c .before .before .before .before .before .before .before .before .before .args in
+    let p = c .before .before .before .before .before .before .before .before .before .pre in
+    let l = c .before .before .before .before .before .spot-of .ensures in
+    ((p .0, p .1, p .2), (omega arith, omega arith, p .4))
 
 same-length-3 : tie.Need-same-length-3
 same-length-3 c = search needs
@@ -75,8 +63,8 @@ same-length-3 c = search needs
 same-length-4 : tie.Need-same-length-4
 same-length-4 c = search needs
 
-returns-3 : tie.Need-returns-3
-returns-3 c = c .before .before .before .before .keep-sought .ensures
+returns-2 : tie.Need-returns-2
+returns-2 c = c .before .before .before .before .keep-sought .ensures
 
 pub keep-spec : {M : Type 1} → statement M
 keep-spec =
@@ -93,9 +81,7 @@ keep-spec =
     same-length
     same-length-2
     returns
-    element-copy-out-if3
-    returns-2
     keep-sought-requires
     same-length-3
     same-length-4
-    returns-3)
+    returns-2)

@@ -85,19 +85,14 @@ returns-2 c =
 element-write-figures-2 : tie.Need-element-write-figures-2
 element-write-figures-2 c = search needs
 
-element-write-figures-3 : tie.Need-element-write-figures-3
-element-write-figures-3 c = search needs
-
 returns-3 : tie.Need-returns-3
 returns-3 c =
     let a = c .before .before .before .before .before .args in
     let p = c .before .before .before .before .before .pre in
-    let f = set (a .figures .now) 0 0 in
-    let g = getD-set-other f 1 0 1 0 (λ z. omega arith) in
-    let z = getD-set-same (a .figures .now) 0 0 0 (omega arith) in (
+    let g = getD-set-other (a .figures .now) 1 0 1 0 (λ z. omega arith) in (
       kept-over (addressOf (a .high) (a .low)) (a .ttl) (a .out .now) (a .lives .now) (a .figures .now) (p .0 .0) (a .k) (absent (c .before)) (omega (arith, c .if3 .left)),
-      length-set f 1 1 ∙ length-set (a .figures .now) 0 0 ∙ p .0 .0,
-      omega (arith, g, z),
+      length-set (a .figures .now) 1 1 ∙ p .0 .0,
+      omega (arith, g, p .0 .1),
     )
 
 pub keep-at-spec : {M : Type 1} → statement M
@@ -121,5 +116,4 @@ keep-at-spec =
     same-length-4
     returns-2
     element-write-figures-2
-    element-write-figures-3
     returns-3)

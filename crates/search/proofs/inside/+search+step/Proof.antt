@@ -2,7 +2,7 @@
 use Prim.Native.Nat.{ℕ, _<_, _≤_, _+_, _-_, _*_, min}
 use mathlib.Core.List.{List}
 use mathlib.Core.Logic.{⊎-elim}
-use mathlib.Core.Path.{_≡_, refl, sym, ap, subst, _∙_}
+use mathlib.Core.Path.{_≡_, sym, ap, subst, _∙_}
 use native.Mathlib.Omega.{arith}
 use lib.ListN.{length, getD}
 use borrow.Author.Needs.{needs}
@@ -29,7 +29,7 @@ use Rattle.octets.proofs.numbers.lesser.Reads as lesser-reads
 use Rattle.search.proofs.links.relink.Reads as relink-reads
 use Rattle.search.proofs.links.unlink.Reads as unlink-reads
 use Rattle.octets.proofs.numbers.wide.Reads as wide-reads
-use Rattle.rows.proofs.inside.keep.Reads as keep-reads
+use Rattle.search.proofs.inside.finish.Reads as finish-reads
 use Rattle.search.proofs.inside.+search+step.{statement}
 use Rattle.search.proofs.inside.+search+step.Tie.{close}
 
@@ -66,14 +66,14 @@ abbrev step-claims : ℕ → step-lts.Claims
 step-claims t = (
   length-reads.Asked,
   length-reads.Learnt,
+  finish-reads.Asked,
+  finish-reads.Learnt,
   joined-reads.Asked,
   joined-reads.Learnt,
   ttl-reads.Asked,
   ttl-reads.Learnt,
   lesser-reads.Asked,
   lesser-reads.Learnt,
-  keep-reads.Asked,
-  keep-reads.Learnt,
   target-reads.Asked,
   target-reads.Learnt,
   wide-reads.Asked,
@@ -259,10 +259,10 @@ module _ (t : ℕ) where
   index c = omega (arith, given c .fit .numbered .owned .few, given c .there)
 
   abbrev begun-on : Goes-on → Begun′
-  begun-on c = c .before .before .before .before .before .before .before .before .before
+  begun-on c = c .before .before .before .before .before .before
 
   unfinished : (c : Goes-on) → 0 < lengthOf (table′ (begun-on c)) (begun-on c .args .i)
-  unfinished c = omega (arith, c .before .before .before .before .length-in .ensures, c .if1 .left)
+  unfinished c = omega (arith, c .before .length-in .ensures, c .if1 .left)
 
   abbrev begun-out : Out → Begun′
   begun-out c = c .before .before .before .before .before .before .before .before .before .before .before .before .before .before .before .before .before
@@ -290,7 +290,7 @@ module _ (t : ℕ) where
   ends : (c : Out) → length (begun-out c .args .owners .now) + c .before .before .before .before .before .before .before .target-in .result < maxNodes
   ends c =
       let o = given (begun-out c) in
-      omega (arith, c .before .before .before .before .before .before .before .target-in .ensures, o .fit .numbered .owned .few, target-name o (unfinished (c .before .before .before .before .before .before .before .before)))
+      omega (arith, c .before .before .before .before .before .before .before .target-in .ensures, o .fit .numbered .owned .few, target-name o (unfinished (c .before .before .before .before .before .before .before .before .before .before .before)))
 
   abbrev left-here : Back → Memory
   left-here c = memory (c .if2 .next) (c .if2 .prev) (c .if2 .out) (c .if2 .lives) (c .if2 .figures) (c .if2 .r)
@@ -302,14 +302,14 @@ module _ (t : ℕ) where
       let a = s .args in
       let k = taken (c .before .before .before) in
       let x : c .before .before .before .before .before .before .before .before .before .before .target-in .result ≡ targetOf (table′ s) (a .i) = c .before .before .before .before .before .before .before .before .before .before .target-in .ensures in
-      let y : c .before .before .before .before .before .before .before .before .before .before .before .before .lesser .result ≡ min (a .ttl) (ttlOf (table′ s) (a .i)) = c .before .before .before .before .before .before .before .before .before .before .before .before .lesser .ensures ∙ ap (min (a .ttl)) (c .before .before .before .before .before .before .before .before .before .before .before .before .before .ttl-in .ensures) in
+      let y : c .before .before .before .before .before .before .before .before .before .before .before .lesser .result ≡ min (a .ttl) (ttlOf (table′ s) (a .i)) = c .before .before .before .before .before .before .before .before .before .before .before .lesser .ensures ∙ ap (min (a .ttl)) (c .before .before .before .before .before .before .before .before .before .before .before .before .ttl-in .ensures) in
       let z : getD (k .next) (length (a .owners .now) + c .before .before .before .before .before .before .before .before .before .before .target-in .result) 0 ≡ getD (k .next) (length (a .owners .now) + targetOf (table′ s) (a .i)) 0 =
       ap (λ (v : ℕ). getD (k .next) (length (a .owners .now) + v) 0) x in
       ⊎-elim
       (λ w. done-as (bare (c .before .before .before)) _ (left-here c) (expected (c .before .before .before)) (memory-eq (w .11) (w .12) (w .13) (w .14) (w .15) (w .16))
-      (searched-on (given s) k (bits′ s) (a .ttl) _ _ _ _ _ x (c .before .before .before .before .before .before .before .before .before .before .before .before .before .before .before .length-in .ensures) (c .before .before .before .before .before .before .before .before .before .before .before .before .before .before .joined .ensures) y (w .6 .ensures)))
+      (searched-on (given s) k (bits′ s) (a .ttl) _ _ _ _ _ x (c .before .before .before .before .before .before .before .before .before .before .before .before .before .before .before .length-in .ensures) (c .before .before .before .before .before .before .before .before .before .before .before .before .before .joined .ensures) y (w .6 .ensures)))
       (λ w. done-as (bare (c .before .before .before)) (bare (c .before .before .before)) (left-here c) (expected (c .before .before .before)) (memory-eq (w .1) (w .2) (w .3) (w .4) (w .5) (w .6))
-      (nothing (given s) k (bits′ s) (a .ttl) (unfinished (c .before .before .before .before .before .before .before .before .before .before .before)) (omega (arith, c .before .wide3 .ensures, w .0 .left, z))))
+      (nothing (given s) k (bits′ s) (a .ttl) (unfinished (c .before .before .before .before .before .before .before .before .before .before .before .before .before .before)) (omega (arith, c .before .wide3 .ensures, w .0 .left, z))))
       (c .if2 .came)
 
   -- ---- and what it owes
@@ -323,7 +323,7 @@ module _ (t : ℕ) where
   step-length-in-requires c κs = search needs
 
   step-joined-requires : step-lts.Need-joined-requires (step-claims t) (step-at t) step.Post
-  step-joined-requires c κs = (index (c .before .before .before .before .before), (given (c .before .before .before .before .before) .fit .some, given (c .before .before .before .before .before) .fit .bounded))
+  step-joined-requires c κs = (index (c .before .before .before .before .before .before), (given (c .before .before .before .before .before .before) .fit .some, given (c .before .before .before .before .before .before) .fit .bounded))
 
   step-ttl-in-requires : step-lts.Need-ttl-in-requires (step-claims t) (step-at t) step.Post
   step-ttl-in-requires c κs = search needs
@@ -332,12 +332,12 @@ module _ (t : ℕ) where
   step-lesser-requires c κs = search needs
 
   step-sub-rest : step-lts.Need-sub-rest (step-claims t) (step-at t) step.Post
-  step-sub-rest c = omega (arith, given (c .before .before .before .before .before .before .before .before) .counts)
+  step-sub-rest c = omega (arith, given (c .before .before .before .before .before) .counts)
 
-  step-keep-requires : step-lts.Need-keep-requires (step-claims t) (step-at t) step.Post
-  step-keep-requires c κs =
-      let f = given (c .before .before .before .before .before .before .before .before .before .before .before .before) .fit in
-      (f .places, f .room, f .level, f .ordered)
+  step-finish-requires : step-lts.Need-finish-requires (step-claims t) (step-at t) step.Post
+  step-finish-requires c κs =
+      let f = given (c .before .before .before .before .before .before .before .before .before) .fit in
+      ((index (c .before .before .before .before .before .before .before .before .before), f .some, f .bounded), (f .places, f .room, f .level, f .ordered))
 
   step-same-length : step-lts.Need-same-length (step-claims t) (step-at t) step.Post
   step-same-length c = search needs
@@ -347,10 +347,9 @@ module _ (t : ℕ) where
 
   step-returns : step-lts.Need-returns (step-claims t) (step-at t) step.Post
   step-returns c =
-      let s = c .before .before .before .before .before .before .before .before .before .before .before .before .before .before .before .before .before in
-      let k = c .before .before .before .before .keep .ensures in
-      done-finished (given s) (bits′ s) _ _ _ _ (s .args .ttl) _ (sym (c .before .before .before .before .before .before .before .before .before .before .before .before .length-in .ensures) ∙ c .before .before .before .before .before .before .before .before .if1 .taken) (c .before .before .before .before .before .before .before .before .before .before .before .joined .ensures)
-      (c .before .before .before .before .before .before .before .before .before .lesser .ensures ∙ ap (min (s .args .ttl)) (c .before .before .before .before .before .before .before .before .before .before .ttl-in .ensures)) (k .0) (k .1) (k .2)
+      let s = c .before .before .before .before .before .before .before .before .before .before .before .before .before .before in
+      let k = c .before .before .before .before .finish .ensures in
+      done-finished (given s) (bits′ s) _ _ _ (s .args .ttl) (sym (c .before .before .before .before .before .before .before .before .before .length-in .ensures) ∙ c .before .before .before .before .before .before .before .before .if1 .taken) (k .0) (k .1) (k .2)
 
   step-target-in-requires : step-lts.Need-target-in-requires (step-claims t) (step-at t) step.Post
   step-target-in-requires c κs = search needs
@@ -400,8 +399,8 @@ module _ (t : ℕ) where
       let o = given (c .before .before .before .before .before .before .before .before .before .before .before .before .before .before .before .before .before .before .before .before .before .before .before .before .before) in (
         omega (arith, c .before .before .before .before .before .before .before .before .before .before .before .before .before .before .before .before .before .before .before .before .before .before .before .before .before .pre .0, fewer o (taken (c .before .before .before .before .before .before .before .before))),
         (
-          fit-without o (taken (c .before .before .before .before .before .before .before .before)) _ b (omega (arith, b, unfinished (c .before .before .before .before .before .before .before .before .before .before .before .before .before .before .before .before))),
-          (omega (arith, c .before .before .before .before .before .before .before .before .before .before .before .before .before .before .before .target-in .ensures, target-name o (unfinished (c .before .before .before .before .before .before .before .before .before .before .before .before .before .before .before .before))), c .before .before .before .before .before .before .wide3 .ensures),
+          fit-without o (taken (c .before .before .before .before .before .before .before .before)) _ b (omega (arith, b, unfinished (c .before .before .before .before .before .before .before .before .before .before .before .before .before .before .before .before .before .before .before))),
+          (omega (arith, c .before .before .before .before .before .before .before .before .before .before .before .before .before .before .before .target-in .ensures, target-name o (unfinished (c .before .before .before .before .before .before .before .before .before .before .before .before .before .before .before .before .before .before .before))), c .before .before .before .before .before .before .wide3 .ensures),
         ),
       )
 
@@ -427,7 +426,7 @@ module _ (t : ℕ) where
   step-returns-2 : step-lts.Need-returns-2 (step-claims t) (step-at t) step.Post
   step-returns-2 c =
       let s = c .before .before .before .before .before .before .before .before .before .before .before .before .before .before .before .before .before .before .before .before .before .before .before in
-      done-unfinished (given s) (taken (c .before .before .before .before .before .before)) (bits′ s) (s .args .ttl) (left-here (c .before .before .before)) (been (c .before .before .before)) (unfinished (c .before .before .before .before .before .before .before .before .before .before .before .before .before .before))
+      done-unfinished (given s) (taken (c .before .before .before .before .before .before)) (bits′ s) (s .args .ttl) (left-here (c .before .before .before)) (been (c .before .before .before)) (unfinished (c .before .before .before .before .before .before .before .before .before .before .before .before .before .before .before .before .before))
       (c .relink .last .1 .1 .1 .0) (c .relink .last .1 .1 .1 .1 .0) (c .relink .ensures .0) (c .relink .ensures .1)
 
 pub +search+step-spec : {M : Type 1} → statement M
@@ -458,14 +457,14 @@ pub +search+step-spec : {M : Type 1} → statement M
     (step-mul-head t)
     (step-element-copy-out-head t)
     (step-length-in-requires t)
-    (step-joined-requires t)
-    (step-ttl-in-requires t)
-    (step-lesser-requires t)
     (step-sub-rest t)
-    (step-keep-requires t)
+    (step-finish-requires t)
     (step-same-length t)
     (step-same-length-2 t)
     (step-returns t)
+    (step-joined-requires t)
+    (step-ttl-in-requires t)
+    (step-lesser-requires t)
     (step-target-in-requires t)
     (step-mul-wide t)
     (step-element-copy-out-wide t)
