@@ -15,6 +15,7 @@ fn the_table_has_a_row_for_every_figure() {
         "one chain, two records a name, 1,024 records",
         "one chain, two records a name, most over least at 64, 256 and 1,024 records",
         "one chain, 8 loops and 8 finished records of one name",
+        "one chain, 8 loops and 20 finished records, more addresses than room",
         "one chain, 1,024 loops of one name",
         "check, full realistic table",
         "check, one A6 record, most over least at 64, 256 and 1,024 records",

@@ -236,6 +236,7 @@ impl Rows {
         let spread = Kind::Spread([two(64), those(256), those(MOST)]);
         self.add("one chain, those 64 records, most over least at 64, 256 and 1,024 records", GROWTH, spread);
         self.chain("one chain, 8 loops and 8 finished records of one name", one_name(8, 8));
+        self.chain("one chain, 8 loops and 20 finished records, more addresses than room", one_name(8, 20));
         self.chain("one chain, 1,024 loops of one name", one_name(MOST, 0));
     }
 
