@@ -1,4 +1,4 @@
--- A6 data read and written, by computation. Assumes nothing.
+-- A6 data read and written, by computation.
 use Prim.Native.Nat.{ℕ, _+_, _-_}
 use mathlib.Core.Path.{_≡_, refl}
 use mathlib.Core.List.{List, [], _∷_, _++_, map}
@@ -9,6 +9,7 @@ use Rattle.a6.specs.Data.{suffixOctets}
 use Rattle.a6.specs.Read.{readNumber, readOf}
 use Rattle.a6.specs.Write.{writeNumber, writeOut}
 use Rattle.a6.specs.Standard.{standardData}
+use Rattle.a6.proofs.Computing.{data-compute}
 use Rattle.a6.specs.declared.Value.{Value}
 use Rattle.a6.specs.declared.Reading.{Reading}
 
@@ -56,29 +57,29 @@ unfolding value
 expected c = record { number = 0; value = value c }
 
 reads : map (λ c. readOf (given c)) cases ≡ map expected cases
-unfolding readOf given expected cases
+unfolding data-compute given expected cases
 reads = refl
 
 standards : map (λ c. standardData (given c)) cases ≡ map (λ c. c .written) cases
-unfolding standardData given cases
+unfolding data-compute given cases
 standards = refl
 
 writes : map (λ c. writeOut (value c) 273) cases ≡ map (λ c. c .written ++ blank (273 - length (c .written))) cases
-unfolding writeOut value cases blank
+unfolding data-compute value cases
 writes = refl
 
 short : map (λ c. writeNumber (value c) (length (c .written) - 1)) cases ≡ map (λ c. 7) cases
-unfolding writeNumber value cases
+unfolding data-compute value cases
 short = refl
 
 -- refusals of the reader, in 01's order
 refusals : map readNumber ([] ∷ (129 ∷ []) ∷ (200 ∷ ones 40) ∷ (0 ∷ ones 15) ∷ (7 ∷ ones 15) ∷ (121 ∷ []) ∷ (128 ∷ []) ∷ (128 ∷ 1 ∷ []) ∷ (128 ∷ 64 ∷ 0 ∷ []) ∷ (128 ∷ 65 ∷ 3 ∷ 16 ∷ 0 ∷ 0 ∷ []) ∷ (128 ∷ (p ++ (0 ∷ []))) ∷ (0 ∷ ones 17) ∷ [])
     ≡ 11 ∷ 10 ∷ 10 ∷ 11 ∷ 11 ∷ 11 ∷ 11 ∷ 11 ∷ 12 ∷ 12 ∷ 13 ∷ 13 ∷ []
-unfolding readNumber ones p
+unfolding data-compute ones p
 refusals = refl
 
 refused-value : readOf (129 ∷ []) ≡ record { number = 10; value = record { prefix = 0; address = blank 16; name = nameOf [] } }
-unfolding readOf
+unfolding data-compute
 refused-value = refl
 
 -- values that the reader cannot give: a prefix length over 128; no name; a name at L = 0; octets after the name; two bit labels side by side; bits set before L
@@ -95,5 +96,5 @@ bad =
     ∷ []
 
 refused-values : map (λ v. writeNumber v 0) bad ≡ 10 ∷ 12 ∷ 12 ∷ 12 ∷ 12 ∷ 12 ∷ 12 ∷ []
-unfolding writeNumber bad
+unfolding data-compute bad
 refused-values = refl

@@ -4,3 +4,4 @@ pub mod WriteLaws
 pub mod RoundLaws
 pub mod RoundTrip
 pub mod Examples
+pub mod Computing

@@ -1,7 +1,7 @@
--- Laws of the reader: one for each test, and what holds where all are passed. Assumes nothing.
+-- Laws of the reader: one for each test, and what holds where all are passed.
 use Prim.Native.Nat.{ℕ, zero, suc, _+_, _-_, _/_, _%_, _^_, _≤_, _<_}
 use mathlib.Core.Path.{_≡_, refl, ap, _∙_, sym}
-use mathlib.Core.Bool.{true, not}
+use mathlib.Core.Bool.{Bool, true}
 use mathlib.Core.List.{List, [], _∷_, _++_, append-nil}
 use lib.Dec.{ltb, eqb}
 use lib.ListN.{length, getD, take, drop, set, length-drop}
@@ -10,21 +10,21 @@ use lib.Seq.{take-all, length-take-le, getD-at, set-at, paste}
 use native.Mathlib.Omega.{arith}
 use borrow.Author.Tests.{lt-ltb, le-ltb, eq-eqb, ne-eqb, ltb-false, eqb-false}
 use Rattle.octets.specs.Octets.{blank, Small}
-use Rattle.octets.specs.Answers.{earns}
+use Rattle.octets.specs.Answers.{earns, orElse}
 use Rattle.octets.proofs.OctetLaws.{length-blank, small-drop, small-take, drop-blank}
-use Rattle.octets.proofs.SmallLaws.{earns-zero, earns-own}
+use Rattle.octets.proofs.AnswerLaws.{earns-zero, else-zero, else-kept, else-later}
 use Rattle.labels.specs.Scan.{scanOf, wellFormed}
 use Rattle.names.specs.Standard.{standardOf}
 use Rattle.labels.specs.Answers.{scanned, found}
-use Rattle.names.specs.Name.{nameOf, heldOf}
+use Rattle.names.specs.Name.{nameOf}
 use Rattle.labels.specs.declared.Scanned.{Scanned}
-use Rattle.names.specs.declared.Name.{Name}
 use Rattle.names.proofs.AnswerLaws.{form-good}
 use Rattle.names.proofs.FrontLaws.{scan-inside}
-use Rattle.names.proofs.NameLaws.{held-formed}
-use Rattle.a6.specs.Data.{suffixOctets, prefixOf, suffixOf, afterSuffix}
-use Rattle.a6.specs.Read.{nameFound, readNumber, aligned, addressIn, nameOctets, nameIn, valueOf, given, refusedReading, readingFor, readOf}
+use Rattle.names.proofs.NameLaws.{held-formed, held-empty}
+use Rattle.a6.specs.Data.{suffixOctets, prefixOf, suffixOf, afterSuffix, blankValue}
+use Rattle.a6.specs.Read.{nameFound, readNumber, addressIn, nameOctets, nameIn, valueOf, readingFor, readOf}
 use Rattle.a6.specs.Standard.{withoutPadding}
+use Rattle.a6.specs.Parts.{byParts}
 use Rattle.a6.specs.declared.Reading.{Reading}
 use Rattle.a6.proofs.SuffixLaws.{join-suffix}
 
@@ -56,19 +56,19 @@ module _ (octets : List ℕ) where
 
   module _ (f : Fronted octets) where
     past : readNumber octets
-        ≡ earns (not (eqb (nameFound octets .number) 0)) (nameFound octets .number) (earns (ltb (1 + suffixOctets (prefixOf octets) + nameFound octets .used) (length octets)) 13 0)
+        ≡ orElse (nameFound octets .number) (earns (ltb (1 + suffixOctets (prefixOf octets) + nameFound octets .used) (length octets)) 13 0)
     unfolding readNumber
     past =
         rw (readNumber, ne-eqb (length octets) 0 (λ e. omega (arith, f .some)), le-ltb 128 (prefixOf octets) (f .low), le-ltb (length octets) (1 + suffixOctets (prefixOf octets)) (f .long))
 
     pub read-name : (nameFound octets .number ≡ 0 → ⊥) → readNumber octets ≡ nameFound octets .number
-    read-name n = past ∙ rw (ne-eqb (nameFound octets .number) 0 n)
+    read-name n = past ∙ else-kept (nameFound octets .number) _ n
 
     pub read-left : nameFound octets .number ≡ 0 → 1 + suffixOctets (prefixOf octets) + nameFound octets .used < length octets → readNumber octets ≡ 13
-    read-left n l = past ∙ rw (eq-eqb (nameFound octets .number) 0 n, lt-ltb (1 + suffixOctets (prefixOf octets) + nameFound octets .used) (length octets) l)
+    read-left n l = past ∙ else-later (nameFound octets .number) _ n ∙ rw (lt-ltb (1 + suffixOctets (prefixOf octets) + nameFound octets .used) (length octets) l)
 
     pub read-done : nameFound octets .number ≡ 0 → length octets ≤ 1 + suffixOctets (prefixOf octets) + nameFound octets .used → readNumber octets ≡ 0
-    read-done n l = past ∙ rw (eq-eqb (nameFound octets .number) 0 n, le-ltb (1 + suffixOctets (prefixOf octets) + nameFound octets .used) (length octets) l)
+    read-done n l = past ∙ else-later (nameFound octets .number) _ n ∙ rw (le-ltb (1 + suffixOctets (prefixOf octets) + nameFound octets .used) (length octets) l)
 
   pub readable : readNumber octets ≡ 0 → Readable octets
   unfolding readNumber
@@ -76,7 +76,7 @@ module _ (octets : List ℕ) where
       let t1 = earns-zero (eqb (length octets) 0) 10 _ e in
       let t2 = earns-zero (ltb 128 (prefixOf octets)) 9 _ (t1 .1) in
       let t3 = earns-zero (ltb (length octets) (1 + suffixOctets (prefixOf octets))) 10 _ (t2 .1) in
-      let t4 = earns-own (nameFound octets .number) _ (t3 .1) in
+      let t4 = else-zero (nameFound octets .number) _ (t3 .1) in
       let t5 = earns-zero (ltb (1 + suffixOctets (prefixOf octets) + nameFound octets .used) (length octets)) 12 _ (t4 .1) in
       let n : length octets ≡ 0 → ⊥ = eqb-false (length octets) 0 (t1 .0) in
       record {
@@ -89,25 +89,26 @@ module _ (octets : List ℕ) where
         full = ltb-false (1 + suffixOctets (prefixOf octets) + nameFound octets .used) (length octets) (t5 .0);
       }
 
-  pub refused-reading : (j : ℕ) → readNumber octets ≡ suc j → readOf octets ≡ refusedReading (suc j)
-  unfolding readOf
-  refused-reading j e = rw e
-
-  pub refused-own : (k : ℕ) → (k ≡ 0 → ⊥) → readNumber octets ≡ k → refusedReading k ≡ readOf octets
-  refused-own zero n e = absurd (n refl)
-  refused-own (suc j) n e = sym (refused-reading j e)
+  -- a number k that is not 0 refuses, and 0 gives the value
+  pub refused-own : (k : ℕ) → (k ≡ 0 → ⊥) → readNumber octets ≡ k → _≡_ {A = Reading} (record { number = k; value = blankValue }) (readOf octets)
+  unfolding readingFor
+  refused-own k n e = rw e (go k n)
+    where
+      go : (k : ℕ) → (k ≡ 0 → ⊥) → _≡_ {A = Reading} (record { number = k; value = blankValue }) (readingFor k octets)
+      go zero n = absurd (n refl)
+      go (suc j) n = refl
 
   pub done-reading : readNumber octets ≡ 0 → _≡_ {A = Reading} (readOf octets) (record { number = 0; value = valueOf octets })
-  unfolding readOf
+  unfolding readingFor
   done-reading e = rw e
 
   pub reading-number : readOf octets .number ≡ readNumber octets
-  unfolding readOf refusedReading
-  reading-number = go (readNumber octets)
-    where
-      go : (k : ℕ) → readingFor k octets .number ≡ k
-      go zero = refl
-      go (suc k) = refl
+  unfolding readingFor
+  reading-number = refl
+
+  -- what the tests say where one of them refuses; on 0 they would say more
+  pub check-refused : (n k : ℕ) (standard : Bool) → n ≡ suc k → readNumber octets ≡ suc k → (n ≡ readNumber octets) × (readNumber octets ≡ 0 → standard ≡ nameFound octets .standard)
+  check-refused n k standard p e = (p ∙ sym e, λ z. let w : ⊥ = omega (arith, e) in absurd w)
 
   -- what is found of a name
   pub found-none : prefixOf octets ≡ 0 → nameFound octets ≡ found 0 true
@@ -119,15 +120,10 @@ module _ (octets : List ℕ) where
   found-some e = rw (nameFound, ne-eqb (prefixOf octets) 0 e)
 
   pub name-none : prefixOf octets ≡ 0 → nameIn octets ≡ nameOf []
-  unfolding nameIn
-  name-none e = rw (nameIn, eq-eqb (prefixOf octets) 0 e)
-
-  pub name-some : (prefixOf octets ≡ 0 → ⊥) → nameIn octets ≡ heldOf (nameOctets octets)
-  unfolding nameIn
-  name-some e = rw (nameIn, ne-eqb (prefixOf octets) 0 e)
+  name-none e = rw (found-none e) held-empty
 
   pub name-rest : length octets ≤ 1 + suffixOctets (prefixOf octets) + nameFound octets .used → nameOctets octets ≡ afterSuffix octets
-  unfolding nameOctets afterSuffix
+  unfolding afterSuffix
   name-rest h =
       let n = length-drop (1 + suffixOctets (prefixOf octets)) octets in
       take-all (nameFound octets .used) (drop (1 + suffixOctets (prefixOf octets)) octets) (omega arith)
@@ -145,12 +141,10 @@ module _ (octets : List ℕ) where
       rw (name-rest (r .full)) (form-good xs (sym (ap (λ (t : Scanned). t .number) w) ∙ r .named) k)
 
 -- the parts that the code has found
-pub name-held : (octets out : List ℕ) (n : ℕ) → out ≡ nameIn octets .octets → n ≡ nameIn octets .length → _≡_ {A = Name} (record { octets = out; length = n }) (nameIn octets)
-name-held octets out n p q = rw (p, q)
-
-pub given-reading : (octets address : List ℕ) (name : Name) → readNumber octets ≡ 0 → address ≡ addressIn octets → name ≡ nameIn octets → given (prefixOf octets) address name ≡ readOf octets
+pub given-reading : (octets address out : List ℕ) (n : ℕ) → readNumber octets ≡ 0 → address ≡ addressIn octets → out ≡ nameIn octets .octets → n ≡ nameIn octets .length
+    → _≡_ {A = Reading} (record { number = 0; value = byParts (prefixOf octets) address out n }) (readOf octets)
 unfolding valueOf
-given-reading octets address name e p q = rw (p, q) (sym (done-reading octets e))
+given-reading octets address out n e p q w = rw (p, q, w) (sym (done-reading octets e))
 
 -- what stands after n octets of suffix, as a part that reaches the end
 abbrev pub partAfter : ℕ → List ℕ → List ℕ
@@ -164,16 +158,25 @@ module _ (octets : List ℕ) (n : ℕ) (e : n ≡ suffixOctets (prefixOf octets)
   pub part-found : (t : Scanned) → (prefixOf octets ≡ 0 → ⊥) → t ≡ scanned (scanOf (partAfter n octets)) → nameFound octets ≡ t
   part-found t z p = found-some octets z ∙ sym (p ∙ rw part-after)
 
-  -- in readable data this part is the name
-  module _ (small : Small octets) (r : Readable octets) (z : prefixOf octets ≡ 0 → ⊥) where
-    part-octets : nameOctets octets ≡ partAfter n octets
-    part-octets = name-rest octets (r .full) ∙ sym part-after
+-- in readable data with a name this part is the name
+pub record Named (octets : List ℕ) (n : ℕ) : Type 0 where
+  pub reads : Readable octets
+  pub small : Small octets
+  pub due : prefixOf octets ≡ 0 → ⊥
+  pub count : n ≡ suffixOctets (prefixOf octets)
 
-    pub part-formed : wellFormed (partAfter n octets) ≡ true
-    part-formed = rw (← part-octets) (name-formed octets small r z)
+module _ (octets : List ℕ) (n : ℕ) (k : Named octets n) where
+  part-octets : nameOctets octets ≡ partAfter n octets
+  part-octets = name-rest octets (k .reads .full) ∙ sym (part-after octets n (k .count))
 
-    pub part-name : nameIn octets ≡ nameOf (standardOf (partAfter n octets))
-    part-name = name-some octets z ∙ rw part-octets (held-formed (partAfter n octets) part-formed)
+  pub part-formed : wellFormed (partAfter n octets) ≡ true
+  part-formed = rw (← part-octets) (name-formed octets (k .small) (k .reads) (k .due))
+
+  pub part-standard : nameFound octets .standard ≡ scanned (scanOf (partAfter n octets)) .standard
+  part-standard = ap (λ (t : Scanned). t .standard) (part-found octets n (k .count) _ (k .due) refl)
+
+  pub part-name : nameIn octets ≡ nameOf (standardOf (partAfter n octets))
+  part-name = rw part-octets (held-formed (partAfter n octets) part-formed)
 
 -- the suffix copied to the last of sixteen octets, and the zeros before it
 take-blank : (k n : ℕ) → k ≤ n → take k (blank n) ≡ blank k
@@ -182,9 +185,9 @@ take-blank zero n h = refl
 take-blank (suc k) zero h = let z : ⊥ = omega arith in absurd z
 take-blank (suc k) (suc n) h = ap (λ (xs : List ℕ). 0 ∷ xs) (take-blank k n (omega arith))
 
-aligned-made : (octets : List ℕ) (n : ℕ) → n ≡ suffixOctets (prefixOf octets) → paste (blank 16) (16 - n) (drop 1 octets) n ≡ aligned octets
-unfolding aligned suffixOf
-aligned-made octets n e =
+suffix-made : (octets : List ℕ) (n : ℕ) → n ≡ suffixOctets (prefixOf octets) → paste (blank 16) (16 - n) (drop 1 octets) n ≡ blank (16 - n) ++ suffixOf octets
+unfolding blank suffixOf
+suffix-made octets n e =
     let k : 16 - n + n ≡ 16 = omega arith in
     rw (take-blank (16 - n) 16 (omega arith), k, drop-blank 16 16, append-nil (blank (16 - n) ++ take n (drop 1 octets)), e)
 
@@ -194,16 +197,23 @@ suffix-long octets f = length-take-le (suffixOctets (prefixOf octets)) (drop 1 o
 
 pub address-unpadded : (octets : List ℕ) → Fronted octets → Small (suffixOf octets)
     → addressIn octets ≡ blank (16 - suffixOctets (prefixOf octets)) ++ withoutPadding (prefixOf octets % 8) (suffixOf octets)
-unfolding addressIn aligned
+unfolding addressIn
 address-unpadded octets f s = join-suffix (prefixOf octets) (suffixOf octets) (f .low) (suffix-long octets f) s
 
+-- the suffix of n octets as the code copies it over zeros
+pub record Copied (octets out : List ℕ) (n : ℕ) : Type 0 where
+  pub fronted : Fronted octets
+  pub small : Small octets
+  pub count : n ≡ suffixOctets (prefixOf octets)
+  pub made : out ≡ paste (blank 16) (16 - n) (drop 1 octets) n
+
 -- the address as the code makes it: where there is a suffix, its first octet loses the padding
-module _ (octets out : List ℕ) (n : ℕ) (f : Fronted octets) (small : Small octets) (e : n ≡ suffixOctets (prefixOf octets)) (p : out ≡ paste (blank 16) (16 - n) (drop 1 octets) n) where
+module _ (octets out : List ℕ) (n : ℕ) (k : Copied octets out n) where
   parts : (s : List ℕ) → suffixOf octets ≡ s → (out ≡ blank (16 - n) ++ s) × (addressIn octets ≡ blank (16 - n) ++ withoutPadding (prefixOf octets % 8) s)
-  unfolding aligned suffixOf
+  unfolding suffixOf
   parts s q =
-      let t = small-take (suffixOctets (prefixOf octets)) (drop 1 octets) (small-drop 1 octets small) in
-      (p ∙ aligned-made octets n e ∙ rw (q, e), address-unpadded octets f t ∙ rw (q, e))
+      let t = small-take (suffixOctets (prefixOf octets)) (drop 1 octets) (small-drop 1 octets (k .small)) in
+      (k .made ∙ suffix-made octets n (k .count) ∙ rw q, address-unpadded octets (k .fronted) t ∙ rw (q, k .count))
 
   pub address-none : n ≡ 0 → out ≡ addressIn octets
   unfolding withoutPadding
@@ -211,14 +221,14 @@ module _ (octets out : List ℕ) (n : ℕ) (f : Fronted octets) (small : Small o
     where
       go : (s : List ℕ) → suffixOf octets ≡ s → out ≡ addressIn octets
       go [] q = parts [] q .0 ∙ sym (parts [] q .1)
-      go (x ∷ xs) q = let v : ⊥ = omega (arith, suffix-long octets f, ap length q) in absurd v
+      go (x ∷ xs) q = let v : ⊥ = omega (arith, suffix-long octets (k .fronted), ap length q, k .count) in absurd v
 
   pub address-some : (n ≡ 0 → ⊥) → (v : ℕ) → v ≡ getD out (16 - n) 0 % 2 ^ (8 - prefixOf octets % 8) → set out (16 - n) v ≡ addressIn octets
   unfolding withoutPadding
   address-some z v w = go (suffixOf octets) refl
     where
       go : (s : List ℕ) → suffixOf octets ≡ s → set out (16 - n) v ≡ addressIn octets
-      go [] q = let u : ⊥ = omega (arith, suffix-long octets f, ap length q, z) in absurd u
+      go [] q = let u : ⊥ = omega (arith, suffix-long octets (k .fronted), ap length q, k .count, z) in absurd u
       go (x ∷ xs) q =
           let a = parts (x ∷ xs) q in
           let g : getD out (16 - n) 0 ≡ x = rw (a .0) (getD-at (blank (16 - n)) x xs 0 (16 - n) (length-blank (16 - n))) in

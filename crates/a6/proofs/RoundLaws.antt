@@ -1,4 +1,4 @@
--- What is read can be written, and what can be written is read again. Assumes nothing.
+-- What is read can be written, and what can be written is read again.
 use Prim.Native.Nat.{ℕ, suc, _+_, _-_, _%_, _^_, _≤_}
 use mathlib.Core.Path.{_≡_, refl, ap, _∙_, sym}
 use mathlib.Core.Bool.{Bool, true, false}
@@ -27,18 +27,21 @@ use Rattle.address.specs.Address.{clearTo}
 use Rattle.address.proofs.AddressLaws.{join-length}
 use Rattle.address.proofs.ClearLaws.{clear-join, clear-blank}
 use Rattle.a6.specs.Data.{suffixOctets, prefixOf, suffixOf, afterSuffix, octetsOf, Shaped}
-use Rattle.a6.specs.Read.{readNumber, nameFound, aligned, addressIn, nameOctets, nameIn, valueOf}
+use Rattle.a6.specs.Read.{readNumber, nameFound, addressIn, nameOctets, nameIn, valueOf}
 use Rattle.a6.specs.Write.{dataOf, nameFits, zeroFilled}
 use Rattle.a6.specs.Standard.{withoutPadding, standardName, standardData}
 use Rattle.a6.specs.declared.Value.{Value}
 use Rattle.a6.proofs.SuffixLaws.{join-back}
-use Rattle.a6.proofs.ReadLaws.{Readable, suffix-long, address-unpadded, read-done, found-none, found-some, name-none, name-some, name-rest, name-formed}
+use Rattle.a6.proofs.ReadLaws.{Readable, suffix-long, address-unpadded, read-done, found-none, found-some, name-none, name-rest, name-formed}
 use Rattle.a6.proofs.WriteLaws.{Writable, fits-none, fits-some, held-octets, held-filled, suffix-length, data-length}
+
+-- the sixteen octets that end in the suffix
+abbrev aligned : List ℕ → List ℕ
+aligned octets = blank (16 - suffixOctets (prefixOf octets)) ++ suffixOf octets
 
 -- what is read of data whose prefix length is in range, with its suffix
 module _ (octets : List ℕ) (small : Small octets) (r : Readable octets) where
   aligned-long : length (aligned octets) ≡ 16
-  unfolding aligned
   aligned-long =
       length-append (blank (16 - suffixOctets (prefixOf octets))) (suffixOf octets) ∙ rw (length-blank (16 - suffixOctets (prefixOf octets)), suffix-long octets (r .fronted)) (omega arith)
 
@@ -60,21 +63,19 @@ module _ (octets : List ℕ) (small : Small octets) (r : Readable octets) where
 
   -- the name is held in standard form
   name-held : nameIn octets ≡ nameOf (standardName octets)
-  unfolding standardName
   name-held = go (eqb (prefixOf octets) 0) refl
     where
       go : (t : Bool) → eqb (prefixOf octets) 0 ≡ t → nameIn octets ≡ nameOf (standardName octets)
       go true e = name-none octets (eqb-true (prefixOf octets) 0 e) ∙ rw (standardName, e)
       go false e =
           let n : prefixOf octets ≡ 0 → ⊥ = eqb-false (prefixOf octets) 0 e in
-          name-some octets n ∙ held-formed (nameOctets octets) (name-formed octets small r n) ∙ rw (standardName, e)
+          held-formed (nameOctets octets) (name-formed octets small r n) ∙ rw (standardName, e)
 
   small-name : Small (nameOctets octets)
-  unfolding nameOctets afterSuffix
+  unfolding afterSuffix
   small-name = small-take (nameFound octets .used) (afterSuffix octets) (small-drop (1 + suffixOctets (prefixOf octets)) octets small)
 
   name-fits : nameFits (prefixOf octets) (octetsOf (nameIn octets)) ≡ true
-  unfolding standardName
   name-fits = rw (name-held, held-octets (standardName octets)) (go (eqb (prefixOf octets) 0) refl)
     where
       go : (t : Bool) → eqb (prefixOf octets) 0 ≡ t → nameFits (prefixOf octets) (standardName octets) ≡ true
@@ -97,7 +98,7 @@ module _ (octets : List ℕ) (small : Small octets) (r : Readable octets) where
 
 -- a zero-filled name is the value that holds its octets
 name-again : (n : Name) → length (n .octets) ≡ 255 → n .length ≤ 255 → zeroFilled n ≡ true → nameOf (octetsOf n) ≡ n
-unfolding zeroFilled octetsOf nameOf
+unfolding octetsOf nameOf
 name-again n e k z =
     let m : length (drop (n .length) (n .octets)) ≡ 255 - n .length = length-drop (n .length) (n .octets) ∙ rw e in
     let d : drop (n .length) (n .octets) ≡ blank (255 - n .length) = rw m at (blank-eq (drop (n .length) (n .octets)) z) in
@@ -134,7 +135,6 @@ module _ (v : Value) (long : length (v .address) ≡ 16) (w : Writable v) where
     standard : standardName (dataOf v) ≡ octetsOf (v .name)
 
   data-none : v .prefix ≡ 0 → Found
-  unfolding standardName
   data-none z =
       let p : prefixOf (dataOf v) ≡ 0 = data-prefix ∙ z in
       let e : octetsOf (v .name) ≡ [] = nil-of-length (octetsOf (v .name)) (eqb-true (length (octetsOf (v .name))) 0 (sym (fits-none (v .prefix) (octetsOf (v .name)) z) ∙ w .fits)) in
@@ -142,7 +142,6 @@ module _ (v : Value) (long : length (v .address) ≡ 16) (w : Writable v) where
       record { number = rw f; used = rw (f, e); name = name-none (dataOf v) p ∙ rw e; standard = rw (standardName, eq-eqb (prefixOf (dataOf v)) 0 p) (sym e) }
 
   data-some : (v .prefix ≡ 0 → ⊥) → Found
-  unfolding standardName
   data-some z =
       let p : prefixOf (dataOf v) ≡ 0 → ⊥ = λ e. z (sym data-prefix ∙ e) in
       let g = in-standard (octetsOf (v .name)) (sym (fits-some (v .prefix) (octetsOf (v .name)) z) ∙ w .fits) in
@@ -153,7 +152,7 @@ module _ (v : Value) (long : length (v .address) ≡ 16) (w : Writable v) where
       record {
         number = ap (λ (t : Scanned). t .number) f ∙ k .0;
         used = u;
-        name = name-some (dataOf v) p ∙ ap heldOf r ∙ held-formed (octetsOf (v .name)) (g .0) ∙ ap nameOf (g .1);
+        name = ap heldOf r ∙ held-formed (octetsOf (v .name)) (g .0) ∙ ap nameOf (g .1);
         standard = rw (standardName, ne-eqb (prefixOf (dataOf v)) 0 p) (ap standardOf r ∙ g .1);
       }
 
@@ -177,7 +176,7 @@ module _ (v : Value) (long : length (v .address) ≡ 16) (w : Writable v) where
 -- the value that was written
 module _ (v : Value) (s : Shaped v) (w : Writable v) where
   data-address : addressIn (dataOf v) ≡ v .address
-  unfolding addressIn aligned
+  unfolding addressIn
   data-address =
       rw (data-suffix v (s .address-long) w, data-prefix v (s .address-long) w) (join-back (v .prefix) (v .address) (w .low) (s .address-long) (s .address-small) (w .clear))
 

@@ -1,4 +1,4 @@
--- Reading and writing: each undoes the other (01, A6 data). Assumes nothing.
+-- Reading and writing: each undoes the other (01, A6 data).
 use Prim.Native.Nat.{ℕ, _-_, _≤_, _<_}
 use mathlib.Core.Path.{_≡_, ap, _∙_, sym}
 use mathlib.Core.Logic.{_↔_}
@@ -8,14 +8,15 @@ use lib.Seq.{take-append-seam}
 use native.Mathlib.Omega.{arith}
 use Rattle.octets.specs.Octets.{blank, Small}
 use Rattle.octets.specs.Answers.{answering, refusal}
+use Rattle.octets.proofs.AnswerLaws.{refused-answer, refused-out, done-answer, done-out}
 use Rattle.a6.specs.Data.{Shaped}
-use Rattle.a6.specs.Read.{readNumber, valueOf, refusedReading, readOf}
+use Rattle.a6.specs.Read.{readNumber, valueOf, readOf}
 use Rattle.a6.specs.Write.{dataOf, writeNumber, writeAnswer, writeOut}
 use Rattle.a6.specs.Standard.{standardData}
 use Rattle.a6.specs.declared.Value.{Value}
 use Rattle.a6.specs.declared.Reading.{Reading}
-use Rattle.a6.proofs.ReadLaws.{readable, reading-number, read-prefix, refused-reading, done-reading}
-use Rattle.a6.proofs.WriteLaws.{Writable, writable, write-room, write-done, refused-answer, refused-out, done-answer, done-out}
+use Rattle.a6.proofs.ReadLaws.{readable, reading-number, read-prefix, refused-own, done-reading}
+use Rattle.a6.proofs.WriteLaws.{Writable, writable, write-room, write-done}
 use Rattle.a6.proofs.RoundLaws.{read-writable, read-data, data-small, written-number, written-value, standard-own}
 
 -- the reader gives this value
@@ -29,7 +30,7 @@ Accepted v = writeNumber v (length (dataOf v)) ≡ 0
 written-given : (v : Value) → Shaped v → Writable v → Gives (dataOf v) v
 written-given v s w = done-reading (dataOf v) (written-number v (s .address-long) w) ∙ rw (written-value v s w)
 
--- what was read, written with room enough, is the standard form of the data with zeros after it
+-- Theorem: what was read, written with room enough, is the standard form of the data with zeros after it
 pub write-read : (octets : List ℕ) (room : ℕ) → Small octets → readNumber octets ≡ 0 → length (standardData octets) ≤ room
     → (writeAnswer (readOf octets .value) room ≡ answering (length (standardData octets)) 0)
     × (writeOut (readOf octets .value) room ≡ standardData octets ++ blank (room - length (standardData octets)))
@@ -38,29 +39,23 @@ write-read octets room s e l =
     let v = ap (λ (r : Reading). r .value) (done-reading octets e) in
     let d = read-data octets s r in
     let n = write-done (valueOf octets) room (read-writable octets s r) (rw d l) in
-    (rw v (done-answer (valueOf octets) room n ∙ rw d), rw v (done-out (valueOf octets) room n ∙ rw d))
+    (rw (v, ← d) (sym (done-answer _ n (length (dataOf (valueOf octets))) 0)), rw (v, ← d) (sym (done-out _ n (dataOf (valueOf octets)) room)))
 
--- an accepted value, written and read again, is itself
+-- Theorem: an accepted value, written and read again, is itself
 pub read-write : (v : Value) (room : ℕ) → Shaped v → writeNumber v room ≡ 0 → Gives (take (writeAnswer v room .count) (writeOut v room)) v
 read-write v room s e =
     let w = writable v room e .0 in
-    rw (done-answer v room e, done-out v room e, take-append-seam (dataOf v) (blank (room - length (dataOf v))))
+    rw (← done-answer _ e (length (dataOf v)) 0, ← done-out _ e (dataOf v) room, take-append-seam (dataOf v) (blank (room - length (dataOf v))))
     (written-given v s w)
 
--- an accepted value with less room than it takes is 7, and nothing is written
+-- Theorem: an accepted value with less room than it takes is 7, and nothing is written
 pub write-short : (v : Value) (room : ℕ) → Accepted v → room < length (dataOf v) → (writeAnswer v room ≡ refusal 7) × (writeOut v room ≡ blank room)
 write-short v room e l =
     let n = write-room v room (writable v (length (dataOf v)) e .0) l in
-    (refused-answer v room 6 n, refused-out v room 6 n)
+    let z : _≡_ {A = ℕ} 7 0 → ⊥ = λ e. omega arith in
+    (sym (refused-answer 7 _ (sym n) z (length (dataOf v)) 0), sym (refused-out 7 _ (sym n) z (dataOf v) room))
 
--- an accepted value is written wherever it has room, and no other value is
-pub write-room-only : (v : Value) (room : ℕ) → (writeNumber v room ≡ 0) ↔ (Accepted v × (length (dataOf v) ≤ room))
-write-room-only v room = (there, λ a. write-done v room (writable v (length (dataOf v)) (a .0) .0) (a .1))
-  where
-    there : writeNumber v room ≡ 0 → Accepted v × (length (dataOf v) ≤ room)
-    there e = let w = writable v room e in (write-done v (length (dataOf v)) (w .0) (omega arith), w .1)
-
--- the writer accepts just the values that the reader can give
+-- Theorem: the writer accepts just the values that the reader can give
 pub write-accepts : (v : Value) → Shaped v → ((octets : List ℕ) × Small octets × Gives octets v) ↔ Accepted v
 write-accepts v s = (there, back)
   where
@@ -75,14 +70,14 @@ write-accepts v s = (there, back)
         let w = writable v (length (dataOf v)) a .0 in
         (dataOf v, data-small v s, written-given v s w)
 
--- a prefix length over 128 is 10 whatever follows it
+-- Theorem: a prefix length over 128 is 10 whatever follows it
 pub prefix-over : (l : ℕ) (rest : List ℕ) → 128 < l → (readOf (l ∷ rest) ≡ readOf (l ∷ [])) × (readOf (l ∷ rest) .number ≡ 10)
-unfolding refusedReading
 prefix-over l rest h =
-    let p = refused-reading (l ∷ rest) 9 (read-prefix (l ∷ rest) (omega arith) h) in
-    let q = refused-reading (l ∷ []) 9 (read-prefix (l ∷ []) (omega arith) h) in
-    (p ∙ sym q, ap (λ (r : Reading). r .number) p)
+    let z : _≡_ {A = ℕ} 10 0 → ⊥ = λ e. omega arith in
+    let p = refused-own (l ∷ rest) 10 z (read-prefix (l ∷ rest) (omega arith) h) in
+    let q = refused-own (l ∷ []) 10 z (read-prefix (l ∷ []) (omega arith) h) in
+    (sym p ∙ q, sym (ap (λ (r : Reading). r .number) p))
 
--- the standard form of data that can be read is its own standard form
+-- Theorem: the standard form of data that can be read is its own standard form
 pub standard-again : (octets : List ℕ) → Small octets → readNumber octets ≡ 0 → standardData (standardData octets) ≡ standardData octets
 standard-again octets s e = standard-own octets s (readable octets e)

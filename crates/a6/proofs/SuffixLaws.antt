@@ -1,4 +1,4 @@
--- The suffix of an address: what a join with zeros makes of it. Assumes nothing.
+-- The suffix of an address: what a join with zeros makes of it.
 use Prim.Native.Nat.{ℕ, zero, suc, _+_, _-_, _*_, _/_, _%_, _^_, _≤_, _<_, min}
 use mathlib.Core.Path.{_≡_, refl, ap, _∙_, sym}
 use mathlib.Core.Bool.{Bool, true, false}

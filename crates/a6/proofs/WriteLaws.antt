@@ -1,7 +1,7 @@
--- Laws of the writer: one for each test, and what holds where all are passed. Assumes nothing.
+-- Laws of the writer: one for each test, and what holds where all are passed.
 use Prim.Native.Nat.{ℕ, suc, _+_, _-_, _≤_, _<_}
-use mathlib.Core.Path.{_≡_, refl, ap, _∙_, sym}
-use mathlib.Core.Bool.{Bool, true, false, not}
+use mathlib.Core.Path.{_≡_, refl, ap, _∙_}
+use mathlib.Core.Bool.{true, false, not}
 use mathlib.Core.List.{List, [], _∷_, _++_}
 use lib.Dec.{ltb, eqb}
 use lib.ListN.{length, take, drop, set, length-append, length-drop}
@@ -11,15 +11,14 @@ use borrow.Author.Tests.{lt-ltb, le-ltb, eq-eqb, ne-eqb, ltb-false, not-false}
 use Rattle.octets.specs.Octets.{blank}
 use Rattle.octets.specs.Zeros.{isBlank}
 use Rattle.octets.proofs.OctetLaws.{length-blank, drop-blank}
-use Rattle.octets.specs.Answers.{answering, refusal}
 use Rattle.octets.proofs.SameLaws.{same-refl}
-use Rattle.octets.proofs.SmallLaws.{earns-zero}
+use Rattle.octets.proofs.AnswerLaws.{earns-zero}
 use Rattle.names.specs.Name.{nameOf}
 use Rattle.names.specs.Standard.{inStandardForm}
-use Rattle.names.specs.declared.Name.{Name}
 use Rattle.address.specs.Address.{clearTo}
 use Rattle.a6.specs.Data.{suffixOctets, octetsOf}
-use Rattle.a6.specs.Write.{over, dataOf, nameFits, zeroFilled, writeNumber, writeAnswer, writeOut}
+use Rattle.a6.specs.Write.{dataOf, nameFits, zeroFilled, writeNumber}
+use Rattle.a6.specs.Parts.{over}
 use Rattle.a6.specs.declared.Value.{Value}
 
 -- what the writer asks of a value, the room aside
@@ -72,22 +71,6 @@ module _ (v : Value) (room : ℕ) where
         ltb-false room (length (dataOf v)) (t5 .0),
       )
 
-  pub refused-answer : (j : ℕ) → writeNumber v room ≡ suc j → writeAnswer v room ≡ refusal (suc j)
-  unfolding writeAnswer
-  refused-answer j e = rw e
-
-  pub refused-out : (j : ℕ) → writeNumber v room ≡ suc j → writeOut v room ≡ blank room
-  unfolding writeOut
-  refused-out j e = rw e
-
-  pub done-answer : writeNumber v room ≡ 0 → writeAnswer v room ≡ answering (length (dataOf v)) 0
-  unfolding writeAnswer
-  done-answer e = rw e
-
-  pub done-out : writeNumber v room ≡ 0 → writeOut v room ≡ dataOf v ++ blank (room - length (dataOf v))
-  unfolding writeOut
-  done-out e = rw e
-
 -- what the name has to be
 pub fits-none : (l : ℕ) (xs : List ℕ) → l ≡ 0 → nameFits l xs ≡ eqb (length xs) 0
 unfolding nameFits
@@ -103,18 +86,8 @@ unfolding octetsOf nameOf
 held-octets xs = take-append-seam xs (blank (255 - length xs))
 
 pub held-filled : (xs : List ℕ) → zeroFilled (nameOf xs) ≡ true
-unfolding zeroFilled nameOf isBlank
+unfolding nameOf isBlank
 held-filled xs = rw (drop-append-seam xs (blank (255 - length xs)), length-blank (255 - length xs)) (same-refl (blank (255 - length xs)))
-
--- what the tests of the code say of a name
-module _ (n : Name) (k : ℕ) (t : Bool) (e : k ≡ n .length) where
-  pub fits-tested : (l : ℕ) → t ≡ nameFits l (take k (n .octets)) → nameFits l (octetsOf n) ≡ t
-  unfolding octetsOf
-  fits-tested l h = sym (h ∙ rw e)
-
-  pub filled-tested : t ≡ isBlank (drop k (n .octets)) → zeroFilled n ≡ t
-  unfolding zeroFilled
-  filled-tested h = sym (h ∙ rw e)
 
 -- how long the data is
 module _ (v : Value) (low : v .prefix ≤ 128) (long : length (v .address) ≡ 16) where
@@ -126,9 +99,10 @@ module _ (v : Value) (low : v .prefix ≤ 128) (long : length (v .address) ≡ 1
   data-length =
       ap suc (length-append (drop (16 - suffixOctets (v .prefix)) (v .address)) (octetsOf (v .name))) ∙ rw suffix-length (omega arith)
 
-pub octets-length : (n : Name) → n .length ≤ length (n .octets) → length (octetsOf n) ≡ n .length
-unfolding octetsOf
-octets-length n h = length-take-le (n .length) (n .octets) h
+  -- counted from the name's length
+  pub data-size : v .name .length ≤ length (v .name .octets) → length (dataOf v) ≡ 1 + suffixOctets (v .prefix) + v .name .length
+  unfolding octetsOf
+  data-size h = data-length ∙ rw (length-take-le (v .name .length) (v .name .octets) h)
 
 -- octets copied behind those that were written
 paste-over : (out front xs : List ℕ) (a : ℕ) → length front ≡ a → paste (over out front) a xs (length xs) ≡ over out (front ++ xs)

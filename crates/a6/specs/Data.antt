@@ -1,4 +1,4 @@
--- A6 data (01, the section of that name): how its parts are told apart, and the values that it stands for. Assumes nothing.
+-- A6 data (01, the section of that name): how its parts are told apart, and the values that it stands for.
 use Prim.Native.Nat.{ℕ, _+_, _-_, _/_, _<_}
 use mathlib.Core.Path.{_≡_}
 use mathlib.Core.List.{List, []}
@@ -33,8 +33,7 @@ unfoldable pub octetsOf : Name → List ℕ
 octetsOf n = take (n .length) (n .octets)
 
 -- L = 0, zero octets, no name: what a refusal shows
-unfoldable pub blankValue : Value
-unfolding blank nameOf
+abbrev pub blankValue : Value
 blankValue = record { prefix = 0; address = blank 16; name = nameOf [] }
 
 -- what the type of a value gives: octets, as many as it says

@@ -1,4 +1,4 @@
--- The standard form of A6 data (01, A6 data): padding bits zero, bit labels merged. Assumes nothing.
+-- The standard form of A6 data (01, A6 data): padding bits zero, bit labels merged.
 use Prim.Native.Nat.{ℕ, _-_, _%_, _^_}
 use mathlib.Core.Bool.{true, false}
 use mathlib.Core.List.{List, [], _∷_, _++_}
@@ -13,10 +13,9 @@ withoutPadding padding [] = []
 withoutPadding padding (x ∷ xs) = x % 2 ^ (8 - padding) ∷ xs
 
 -- the prefix name in standard form; no octets at L = 0
-unfoldable pub standardName : List ℕ → List ℕ
-unfolding nameOctets standardOf
+abbrev pub standardName : List ℕ → List ℕ
 standardName octets = elim (eqb (prefixOf octets) 0) [ true ↦ [] | false ↦ standardOf (nameOctets octets) ]
 
+-- the data with zeros for its padding and its name in standard form
 unfoldable pub standardData : List ℕ → List ℕ
-unfolding suffixOf withoutPadding standardName
 standardData octets = prefixOf octets ∷ (withoutPadding (prefixOf octets % 8) (suffixOf octets) ++ standardName octets)

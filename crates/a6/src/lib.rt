@@ -4,9 +4,10 @@ ghost use mathlib.Core.List.{[], _∷_, _++_};
 ghost use Prim.Native.Nat.{_+_, _≤_};
 ghost use lib.ListN.{length};
 ghost use Rattle.names.specs.Name.{nameOf};
-ghost use Rattle.a6.specs.Data.{longest, suffixOctets};
-ghost use Rattle.a6.specs.Read.{readOf, refusedReading, given};
-ghost use Rattle.a6.specs.Write.{over, nameFits, writeAnswer, writeOut};
+ghost use Rattle.a6.specs.Data.{longest, suffixOctets, blankValue};
+ghost use Rattle.a6.specs.Read.{readOf};
+ghost use Rattle.a6.specs.Write.{nameFits, writeNumber, writeAnswer, writeOut};
+ghost use Rattle.a6.specs.Parts.{byParts, over};
 
 // The longest prefix (01, A6 data).
 const LONGEST: u8 = 128;
@@ -39,7 +40,12 @@ pub fn read(rdata: &[u8]) -> Reading
     let mut octets = [0u8; 255];
     let length = inside::put_name(rdata, standard, &mut octets);
     let name = names::Name { octets, length };
-    done(rdata[0], address, name)
+    let value = Value {
+        prefix: rdata[0],
+        address,
+        name,
+    };
+    Reading { number: 0, value }
 }
 
 // The data of a value, with zeros after it, and its length: 10 for a prefix length over 128, 12 for a value that the reader cannot give, 7 for an output
@@ -54,29 +60,41 @@ pub fn write(value: Value, out: &mut [u8]) -> octets::Answer
     let name = value.name;
     let octets = name.octets;
     let length = octets::wide(name.length);
-    if LONGEST < prefix {
-        return octets::refused(10);
-    }
-    if !name_fits(prefix, &octets[..length]) {
-        return octets::refused(12);
-    }
-    if !octets::zeros::is_blank(&octets, length) {
-        return octets::refused(12);
-    }
-    if !address::is_clear(&address, prefix) {
-        return octets::refused(12);
+    let number = number_of(prefix, &address, &octets, length, out.len());
+    if number != 0 {
+        return octets::refused(number);
     }
     let suffix = suffix_octets(prefix);
-    let size = 1 + suffix + length;
-    if out.len() < size {
-        return octets::refused(7);
-    }
     put(prefix, &address[16 - suffix..], &octets[..length], out);
+    let size = 1 + suffix + length;
     octets::Answer {
         number: 0,
         count: size as u32,
         work: 0,
     }
+}
+
+// The number for a value by its parts, and an output of `room` octets.
+fn number_of(prefix: u8, address: &[u8], octets: &[u8], count: usize, room: usize) -> u8
+    requires { ⌜ (length (now address) ≡ 16) × (length (now octets) ≡ 255) × (count ≤ 255) ⌝ }
+    ensures { λ r. ⌜ r ≡ writeNumber (byParts prefix (now (address .entry)) (now (octets .entry)) count) room ⌝ }
+{
+    if LONGEST < prefix {
+        return 10;
+    }
+    if !name_fits(prefix, &octets[..count]) {
+        return 12;
+    }
+    if !octets::zeros::is_blank(octets, count) {
+        return 12;
+    }
+    if !address::is_clear(address, prefix) {
+        return 12;
+    }
+    if room < 1 + suffix_octets(prefix) + count {
+        return 7;
+    }
+    0
 }
 
 // The octets of suffix that a prefix length leaves.
@@ -99,7 +117,7 @@ fn no_name() -> names::Name
 
 // A refusal by its number.
 fn refused(number: u8) -> Reading
-    ensures { λ r. ⌜ r ≡ refusedReading number ⌝ }
+    ensures { λ r. ⌜ r ≡ record { number = number; value = blankValue } ⌝ }
 {
     let name = no_name();
     let value = Value {
@@ -108,18 +126,6 @@ fn refused(number: u8) -> Reading
         name,
     };
     Reading { number, value }
-}
-
-// A value by its parts, read with number 0.
-fn done(prefix: u8, address: [u8; 16], name: names::Name) -> Reading
-    ensures { λ r. ⌜ r ≡ given prefix address name ⌝ }
-{
-    let value = Value {
-        prefix,
-        address,
-        name,
-    };
-    Reading { number: 0, value }
 }
 
 // The three parts of data, one after the other at the front of an output that has room for them.

@@ -1,5 +1,5 @@
--- Laws of what an answer becomes at the C interface. Assumes nothing.
-use Prim.Native.Nat.{ℕ, zero, suc, _+_, _-_, _≤_, _<_}
+-- Laws of what an answer becomes at the C interface.
+use Prim.Native.Nat.{ℕ, _-_, _≤_, _<_}
 use mathlib.Core.Path.{_≡_, refl, ap, _∙_, sym}
 use mathlib.Core.Bool.{Bool, true, false}
 use mathlib.Core.List.{List, [], _∷_, _++_, append-nil, append-assoc}
@@ -11,12 +11,12 @@ use native.Mathlib.Omega.{arith}
 use borrow.Author.Tests.{eq-eqb, ne-eqb, lt-ltb, le-ltb, eqb-true, eqb-false, ltb-true, ltb-false}
 use Rattle.octets.specs.Octets.{blank}
 use Rattle.octets.specs.declared.Answer.{Answer}
+use Rattle.octets.specs.Answers.{answerBy, outBy}
+use Rattle.octets.proofs.AnswerLaws.{refused-out, by-number}
 use Rattle.octets.proofs.OctetLaws.{length-blank}
 use Rattle.a6.specs.declared.Value.{Value}
-use Rattle.a6.specs.declared.Reading.{Reading}
-use Rattle.a6.specs.Read.{readNumber, refusedReading, readOf}
-use Rattle.a6.proofs.ReadLaws.{refused-own}
-use Rattle.a6plan.specs.Exports.{valueSize, valueOctets, exportedReadNumber, exportedValue, exportedWriteNumber, exportedWriteOut, valueIn, exportedNumber, exportedFigures, exportedOut}
+use Rattle.a6plan.specs.Exports.{valueSize, exportedReadNumber, exportedWriteNumber, valueIn, exportedNumber, exportedFigures}
+use Rattle.a6plan.specs.Keeping.{keptFor}
 
 module _ (n k : ℕ) where
   pub exported-two : n ≡ 2 → exportedNumber n k ≡ k
@@ -52,24 +52,44 @@ module _ (n k : ℕ) where
       go true f = let h = eqb-true n 2 f in (h, sym (exported-two h) ∙ e)
       go false f = rest (eqb k 0) refl (eqb-false n 2 f)
 
--- by the exported number
-pub out-done : (k : ℕ) (out : List ℕ) → k ≡ 0 → exportedOut k out ≡ out
-unfolding exportedOut
-out-done k out h = rw h
+  -- so with other figures nothing comes out
+  pub exported-other : (n ≡ 2 → ⊥) → exportedNumber n k ≡ 0 → ⊥
+  exported-other h e = h (exported-zero e .0)
 
-pub out-refused : (k : ℕ) (out : List ℕ) → (k ≡ 0 → ⊥) → exportedOut k out ≡ blank (length out)
-unfolding exportedOut
-out-refused zero out h = absurd (h refl)
-out-refused (suc k) out h = refl
+-- an operation's output, kept where the figures are two: by the exported number it is the result, or zeros
+pub kept-out : (n k size : ℕ) (result out end : List ℕ) → out ≡ outBy k result size → length out ≡ size → end ≡ keptFor n out → end ≡ outBy (exportedNumber n k) result size
+unfolding keptFor
+kept-out n k size result out end o l e = e ∙ go (eqb n 2) refl
+  where
+    go : (t : Bool) → eqb n 2 ≡ t → keptFor n out ≡ outBy (exportedNumber n k) result size
+    go true f = rw (keptFor, f, exported-two n k (eqb-true n 2 f)) o
+    go false f = rw (keptFor, f, l) (refused-out (exportedNumber n k) _ refl (exported-other n k (eqb-false n 2 f)) result size)
 
-pub figures-done : (k : ℕ) (a : Answer) (n : ℕ) → k ≡ 0 → exportedFigures k a n ≡ a .count ∷ a .work ∷ []
-unfolding exportedFigures
-figures-done k a n h = rw h
+-- what `report` makes of an operation's answer and its output: the number, the output and the figures by the exported number
+module _ (n k count work : ℕ) (answer : Answer) (r : ℕ) (a : answer ≡ answerBy k count work) (e : r ≡ exportedNumber n (answer .number)) where
+  pub exported-number : r ≡ exportedNumber n k
+  exported-number = e ∙ ap (exportedNumber n) (ap (λ (v : Answer). v .number) a ∙ by-number k count work)
 
-pub figures-refused : (k : ℕ) (a : Answer) (n : ℕ) → (k ≡ 0 → ⊥) → exportedFigures k a n ≡ blank n
-unfolding exportedFigures
-figures-refused zero a n h = absurd (h refl)
-figures-refused (suc k) a n h = refl
+  pub exported-out : (size : ℕ) (result out end : List ℕ) → out ≡ outBy k result size → length out ≡ size → end ≡ keptFor n out → end ≡ outBy r result size
+  exported-out size result out end o l h = kept-out n k size result out end o l h ∙ ap (λ (m : ℕ). outBy m result size) (sym exported-number)
+
+  pub exported-figures : (figures : List ℕ) → figures ≡ exportedFigures r answer n → figures ≡ exportedFigures r (answerBy k count work) n
+  exported-figures figures h = h ∙ ap (λ (v : Answer). exportedFigures r v n) a
+
+pub keeps-two : (n : ℕ) (out : List ℕ) → n ≡ 2 → out ≡ keptFor n out
+unfolding keptFor
+keeps-two n out h = rw (keptFor, eq-eqb n 2 h)
+
+pub keeps-none : (n : ℕ) (out : List ℕ) → (n ≡ 2 → ⊥) → blank (length out) ≡ keptFor n out
+unfolding keptFor
+keeps-none n out h = rw (keptFor, ne-eqb n 2 h)
+
+-- a result that fills its output
+pub full-out : (result : List ℕ) (room : ℕ) → length result ≡ room → result ≡ outBy 0 result room
+unfolding outBy blank
+full-out result room e =
+    let z : room - length result ≡ 0 = omega arith in
+    rw z (sym (append-nil result))
 
 -- two figures written over two zeros
 pub figures-written : (a b : ℕ) (fs : List ℕ) → length fs ≡ 2 → set (set fs 0 a) 1 b ≡ a ∷ b ∷ []
@@ -123,46 +143,28 @@ module _ (v address : List ℕ) (h : v ≡ blank valueSize) (a : length address 
   pub value-put : (octets : List ℕ) (p l : ℕ) → set (set (named (addressed v address) octets) 0 p) 17 l ≡ p ∷ (address ++ (l ∷ octets))
   value-put octets p l = rw (with-name octets) (set-at (p ∷ address) 0 octets l 17 (omega arith))
 
--- a refused reading shows zeros
-pub refused-value : (octets : List ℕ) → (readNumber octets ≡ 0 → ⊥) → valueOctets (readOf octets .value) ≡ blank valueSize
-unfolding valueOctets refusedReading blank
-refused-value octets z = ap (λ (r : Reading). valueOctets (r .value)) (sym (refused-own octets (readNumber octets) z refl))
-
 -- the numbers of reading and writing at this interface
-module _ (n : ℕ) (r : Reading) where
-  pub read-misfit : (n ≡ valueSize → ⊥) → (exportedReadNumber n r ≡ 5) × (exportedValue n r ≡ blank n)
-  unfolding exportedReadNumber exportedValue
-  read-misfit h = (rw (ne-eqb n valueSize h), rw (exportedValue, ne-eqb n valueSize h))
+module _ (m k : ℕ) where
+  pub read-misfit : (m ≡ valueSize → ⊥) → exportedReadNumber m k ≡ 5
+  unfolding exportedReadNumber
+  read-misfit h = rw (ne-eqb m valueSize h)
 
-  pub read-fit : n ≡ valueSize → (exportedReadNumber n r ≡ r .number) × (exportedValue n r ≡ valueOctets (r .value))
-  unfolding exportedReadNumber exportedValue
-  read-fit h = (rw (eq-eqb n valueSize h), rw (exportedValue, eq-eqb n valueSize h))
+  pub read-fit : m ≡ valueSize → exportedReadNumber m k ≡ k
+  unfolding exportedReadNumber
+  read-fit h = rw (eq-eqb m valueSize h)
 
-module _ (m n : ℕ) (a : Answer) where
-  pub write-misfit : (m ≡ valueSize → ⊥) → exportedWriteNumber m n a ≡ 5
-  unfolding exportedWriteNumber
-  write-misfit h = rw (ne-eqb m valueSize h)
+  module _ (n : ℕ) where
+    pub write-misfit : (m ≡ valueSize → ⊥) → exportedWriteNumber m n k ≡ 5
+    unfolding exportedWriteNumber
+    write-misfit h = rw (ne-eqb m valueSize h)
 
-  pub write-figures : m ≡ valueSize → (n ≡ 2 → ⊥) → exportedWriteNumber m n a ≡ 5
-  unfolding exportedWriteNumber
-  write-figures h k = rw (eq-eqb m valueSize h, ne-eqb n 2 k)
+    pub write-figures : m ≡ valueSize → (n ≡ 2 → ⊥) → exportedWriteNumber m n k ≡ 5
+    unfolding exportedWriteNumber
+    write-figures h l = rw (eq-eqb m valueSize h, ne-eqb n 2 l)
 
-  pub write-fit : m ≡ valueSize → n ≡ 2 → exportedWriteNumber m n a ≡ a .number
-  unfolding exportedWriteNumber
-  write-fit h k = rw (eq-eqb m valueSize h, eq-eqb n 2 k)
-
-module _ (m n : ℕ) (out : List ℕ) (room : ℕ) where
-  pub out-misfit : (m ≡ valueSize → ⊥) → exportedWriteOut m n out room ≡ blank room
-  unfolding exportedWriteOut
-  out-misfit h = rw (exportedWriteOut, ne-eqb m valueSize h)
-
-  pub out-figures : m ≡ valueSize → (n ≡ 2 → ⊥) → exportedWriteOut m n out room ≡ blank room
-  unfolding exportedWriteOut
-  out-figures h k = rw (exportedWriteOut, eq-eqb m valueSize h, ne-eqb n 2 k)
-
-  pub out-fit : m ≡ valueSize → n ≡ 2 → exportedWriteOut m n out room ≡ out
-  unfolding exportedWriteOut
-  out-fit h k = rw (exportedWriteOut, eq-eqb m valueSize h, eq-eqb n 2 k)
+    pub write-fit : m ≡ valueSize → n ≡ 2 → exportedWriteNumber m n k ≡ k
+    unfolding exportedWriteNumber
+    write-fit h l = rw (eq-eqb m valueSize h, eq-eqb n 2 l)
 
 -- the value of octets, from its copied parts
 pub value-taken : (xs a b : List ℕ) → a ≡ take 16 (drop 1 xs) → b ≡ take 255 (drop 18 xs)

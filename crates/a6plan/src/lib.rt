@@ -1,15 +1,22 @@
 // The C interface: each function takes slices and numbers, asks nothing of its caller, and returns the number of 01 (What comes back).
 ghost use mathlib.Core.Path.{_≡_};
 ghost use lib.ListN.{length};
-ghost use Rattle.names.specs.Answers.{standardAnswer, standardOut};
-ghost use Rattle.a6.specs.Read.{readOf};
-ghost use Rattle.a6.specs.Write.{writeAnswer, writeOut};
+ghost use Rattle.octets.specs.Octets.{flat};
+ghost use Rattle.octets.specs.Answers.{outBy};
+ghost use Rattle.names.specs.Standard.{standardOf};
+ghost use Rattle.names.specs.Answers.{standardNumber, standardAnswer};
+ghost use Rattle.a6.specs.Read.{readNumber, valueOf};
+ghost use Rattle.a6.specs.Write.{dataOf, writeNumber, writeAnswer};
 ghost use Rattle.plan.specs.Check.{checkOf};
 ghost use Rattle.plan.specs.Part.{ownerPart};
-ghost use Rattle.forward.specs.Lookup.{lookupAnswer, lookupOut, lookupTtls};
-ghost use Rattle.reverse.specs.Answers.{reverseAnswer, reverseOut};
-ghost use Rattle.collapse.specs.Collapse.{collapseAnswer, collapseOut};
-ghost use Rattle.a6plan.specs.Exports.{partAnswer, valueSize, valueIn, exportedReadNumber, exportedValue, exportedWriteNumber, exportedWriteOut, exportedNumber, exportedFigures, exportedOut};
+ghost use Rattle.plan.specs.Graph.{graphOf};
+ghost use Rattle.search.specs.Answers.{outputOf, livesOf};
+ghost use Rattle.forward.specs.Lookup.{lookupNumber, lookupAnswer};
+ghost use Rattle.reverse.specs.Answers.{endOf, endNumber, endName, reverseAnswer};
+ghost use Rattle.collapse.specs.Fold.{foldOf};
+ghost use Rattle.collapse.specs.Collapse.{numberOf, collapseAnswer};
+ghost use Rattle.a6plan.specs.Exports.{partAnswer, valueSize, valueOctets, valueIn, exportedReadNumber, exportedWriteNumber, exportedNumber, exportedFigures};
+ghost use Rattle.a6plan.specs.Keeping.{keptFor};
 
 // The octets of an A6 value at this interface.
 const VALUE: usize = 273;
@@ -17,23 +24,19 @@ const VALUE: usize = 273;
 // The standard form of a name in a 255-octet output; figures: its length and 0.
 #[no_mangle]
 pub extern "C" fn a6plan_standard(name: &[u8], out: &mut [u8], figures: &mut [u32]) -> u32
-    ensures number { λ r. ⌜ r ≡ exportedNumber (length (now (figures .entry))) (standardAnswer (now (name .entry)) (length (now (out .entry))) .number) ⌝ }
-    ensures output { λ r. ⌜ now (out .exit) ≡ exportedOut r (standardOut (now (name .entry)) (length (now (out .entry)))) ⌝ }
+    ensures number { λ r. ⌜ r ≡ exportedNumber (length (now (figures .entry))) (standardNumber (now (name .entry)) (length (now (out .entry)))) ⌝ }
+    ensures output { λ r. ⌜ now (out .exit) ≡ outBy r (standardOf (now (name .entry))) (length (now (out .entry))) ⌝ }
     ensures figured { λ r. ⌜ now (figures .exit) ≡ exportedFigures r (standardAnswer (now (name .entry)) (length (now (out .entry)))) (length (now (figures .entry))) ⌝ }
 {
     let answer = names::standard_form(name, out);
-    let number = report(answer, figures);
-    if number != 0 {
-        octets::clear(out);
-    }
-    number
+    report(answer, out, figures)
 }
 
 // The value that A6 data stands for, in 273 octets; all zero on a refusal.
 #[no_mangle]
 pub extern "C" fn a6plan_read(rdata: &[u8], value: &mut [u8]) -> u32
-    ensures number { λ r. ⌜ r ≡ exportedReadNumber (length (now (value .entry))) (readOf (now (rdata .entry))) ⌝ }
-    ensures valued { λ _. ⌜ now (value .exit) ≡ exportedValue (length (now (value .entry))) (readOf (now (rdata .entry))) ⌝ }
+    ensures number { λ r. ⌜ r ≡ exportedReadNumber (length (now (value .entry))) (readNumber (now (rdata .entry))) ⌝ }
+    ensures valued { λ r. ⌜ now (value .exit) ≡ outBy r (valueOctets (valueOf (now (rdata .entry)))) (length (now (value .entry))) ⌝ }
 {
     octets::clear(value);
     if value.len() != VALUE {
@@ -55,8 +58,8 @@ pub extern "C" fn a6plan_read(rdata: &[u8], value: &mut [u8]) -> u32
 // The A6 data of a value of 273 octets, with zeros after it; figures: the octets written and 0.
 #[no_mangle]
 pub extern "C" fn a6plan_write(value: &[u8], out: &mut [u8], figures: &mut [u32]) -> u32
-    ensures number { λ r. ⌜ r ≡ exportedWriteNumber (length (now (value .entry))) (length (now (figures .entry))) (writeAnswer (valueIn (now (value .entry))) (length (now (out .entry)))) ⌝ }
-    ensures output { λ _. ⌜ now (out .exit) ≡ exportedWriteOut (length (now (value .entry))) (length (now (figures .entry))) (writeOut (valueIn (now (value .entry))) (length (now (out .entry)))) (length (now (out .entry))) ⌝ }
+    ensures number { λ r. ⌜ r ≡ exportedWriteNumber (length (now (value .entry))) (length (now (figures .entry))) (writeNumber (valueIn (now (value .entry))) (length (now (out .entry)))) ⌝ }
+    ensures output { λ r. ⌜ now (out .exit) ≡ outBy r (dataOf (valueIn (now (value .entry)))) (length (now (out .entry))) ⌝ }
     ensures figured { λ r. ⌜ now (figures .exit) ≡ exportedFigures r (writeAnswer (valueIn (now (value .entry))) (length (now (out .entry)))) (length (now (figures .entry))) ⌝ }
 {
     if value.len() != VALUE {
@@ -70,7 +73,7 @@ pub extern "C" fn a6plan_write(value: &[u8], out: &mut [u8], figures: &mut [u32]
         return 5;
     }
     let answer = a6::write(take_value(value), out);
-    report(answer, figures)
+    figure(answer, figures)
 }
 
 // Whether a table is in order: 0, or 1, 2 or 3.
@@ -89,15 +92,15 @@ pub extern "C" fn a6plan_owner(table: &[u8], index: usize, figures: &mut [u32]) 
     ensures number { λ r. ⌜ r ≡ exportedNumber (length (now (figures .entry))) 0 ⌝ }
     ensures figured { λ r. ⌜ now (figures .exit) ≡ exportedFigures r (partAnswer (ownerPart (now (table .entry)) index)) (length (now (figures .entry))) ⌝ }
 {
-    let part = plan::owner_part(table, index);
-    let offset = part.offset as u32;
-    let length = part.length as u32;
+    let part = plan::owner(table, index);
+    let length = part.len();
+    let offset = plan::inside::owner_place(index, length);
     let answer = octets::Answer {
         number: 0,
-        count: offset,
-        work: length,
+        count: offset as u32,
+        work: length as u32,
     };
-    report(answer, figures)
+    figure(answer, figures)
 }
 
 // The addresses of a name in ascending order, sixteen octets each, then zeros; at the place of each, in the list of TTLs, how long it lives,
@@ -111,18 +114,14 @@ pub extern "C" fn a6plan_lookup(
     ttls: &mut [u32],
     figures: &mut [u32],
 ) -> u32
-    ensures number { λ r. ⌜ r ≡ exportedNumber (length (now (figures .entry))) (lookupAnswer (now (table .entry)) (now (name .entry)) limit (length (now (out .entry))) (length (now (ttls .entry))) .number) ⌝ }
-    ensures output { λ r. ⌜ now (out .exit) ≡ exportedOut r (lookupOut (now (table .entry)) (now (name .entry)) limit (length (now (out .entry))) (length (now (ttls .entry)))) ⌝ }
-    ensures lifetimes { λ r. ⌜ now (ttls .exit) ≡ exportedOut r (lookupTtls (now (table .entry)) (now (name .entry)) limit (length (now (out .entry))) (length (now (ttls .entry)))) ⌝ }
+    ensures number { λ r. ⌜ r ≡ exportedNumber (length (now (figures .entry))) (lookupNumber (now (table .entry)) (now (name .entry)) limit (length (now (out .entry))) (length (now (ttls .entry)))) ⌝ }
+    ensures output { λ r. ⌜ now (out .exit) ≡ outputOf (graphOf (now (table .entry))) (now (name .entry)) r (length (now (out .entry))) ⌝ }
+    ensures lifetimes { λ r. ⌜ now (ttls .exit) ≡ livesOf (graphOf (now (table .entry))) (now (name .entry)) r (length (now (ttls .entry))) ⌝ }
     ensures figured { λ r. ⌜ now (figures .exit) ≡ exportedFigures r (lookupAnswer (now (table .entry)) (now (name .entry)) limit (length (now (out .entry))) (length (now (ttls .entry)))) (length (now (figures .entry))) ⌝ }
 {
     let answer = forward::lookup(table, name, limit, out, ttls);
-    let number = report(answer, figures);
-    if number != 0 {
-        octets::clear(out);
-        octets::numbers::clear(ttls);
-    }
-    number
+    keep_numbers(figures.len(), ttls);
+    report(answer, out, figures)
 }
 
 // The name where the rewriting of an address's reverse name ends, then zeros; figures: its length and the number of rewrites.
@@ -134,19 +133,15 @@ pub extern "C" fn a6plan_reverse(
     out: &mut [u8],
     figures: &mut [u32],
 ) -> u32
-    ensures number { λ r. ⌜ r ≡ exportedNumber (length (now (figures .entry))) (reverseAnswer (now (table .entry)) (now (address .entry)) limit (length (now (out .entry))) .number) ⌝ }
-    ensures output { λ r. ⌜ now (out .exit) ≡ exportedOut r (reverseOut (now (table .entry)) (now (address .entry)) limit (length (now (out .entry)))) ⌝ }
+    ensures number { λ r. ⌜ r ≡ exportedNumber (length (now (figures .entry))) (endNumber (endOf (now (table .entry)) (now (address .entry)) limit (length (now (out .entry))))) ⌝ }
+    ensures output { λ r. ⌜ now (out .exit) ≡ outBy r (endName (endOf (now (table .entry)) (now (address .entry)) limit (length (now (out .entry))))) (length (now (out .entry))) ⌝ }
     ensures figured { λ r. ⌜ now (figures .exit) ≡ exportedFigures r (reverseAnswer (now (table .entry)) (now (address .entry)) limit (length (now (out .entry)))) (length (now (figures .entry))) ⌝ }
 {
     let answer = reverse::lookup(table, address, limit, out);
-    let number = report(answer, figures);
-    if number != 0 {
-        octets::clear(out);
-    }
-    number
+    report(answer, out, figures)
 }
 
-// The table with a name folded into its records, then zeros; figures: how many records, and 0.
+// The table with a name folded, then zeros; figures: how many records, and 0.
 #[no_mangle]
 pub extern "C" fn a6plan_collapse(
     table: &[u8],
@@ -154,16 +149,12 @@ pub extern "C" fn a6plan_collapse(
     out: &mut [u8],
     figures: &mut [u32],
 ) -> u32
-    ensures number { λ r. ⌜ r ≡ exportedNumber (length (now (figures .entry))) (collapseAnswer (now (table .entry)) (now (name .entry)) (length (now (out .entry))) .number) ⌝ }
-    ensures output { λ r. ⌜ now (out .exit) ≡ exportedOut r (collapseOut (now (table .entry)) (now (name .entry)) (length (now (out .entry)))) ⌝ }
+    ensures number { λ r. ⌜ r ≡ exportedNumber (length (now (figures .entry))) (numberOf (now (table .entry)) (now (name .entry)) (length (now (out .entry)))) ⌝ }
+    ensures output { λ r. ⌜ now (out .exit) ≡ outBy r (flat (foldOf (now (name .entry)) (now (table .entry)))) (length (now (out .entry))) ⌝ }
     ensures figured { λ r. ⌜ now (figures .exit) ≡ exportedFigures r (collapseAnswer (now (table .entry)) (now (name .entry)) (length (now (out .entry)))) (length (now (figures .entry))) ⌝ }
 {
     let answer = collapse::collapse(table, name, out);
-    let number = report(answer, figures);
-    if number != 0 {
-        octets::clear(out);
-    }
-    number
+    report(answer, out, figures)
 }
 
 // The value of 273 octets.
@@ -186,8 +177,39 @@ fn take_value(value: &[u8]) -> a6::Value
     }
 }
 
+// The figures of an answer and its number at this interface; the output is zeros where the figures are not two, and stays else: an operation
+// that refuses has cleared it.
+fn report(answer: octets::Answer, out: &mut [u8], figures: &mut [u32]) -> u32
+    ensures number { λ r. ⌜ r ≡ exportedNumber (length (now (figures .entry))) (answer .number) ⌝ }
+    ensures output { λ _. ⌜ now (out .exit) ≡ keptFor (length (now (figures .entry))) (now (out .entry)) ⌝ }
+    ensures figured { λ r. ⌜ now (figures .exit) ≡ exportedFigures r answer (length (now (figures .entry))) ⌝ }
+{
+    keep(figures.len(), out);
+    figure(answer, figures)
+}
+
+// Zeros where the figures, n of them, are not two.
+fn keep(n: usize, out: &mut [u8])
+    ensures { λ _. ⌜ now (out .exit) ≡ keptFor n (now (out .entry)) ⌝ }
+{
+    if n == 2 {
+        return;
+    }
+    octets::clear(out);
+}
+
+// The same for a list of numbers.
+fn keep_numbers(n: usize, list: &mut [u32])
+    ensures { λ _. ⌜ now (list .exit) ≡ keptFor n (now (list .entry)) ⌝ }
+{
+    if n == 2 {
+        return;
+    }
+    octets::numbers::clear(list);
+}
+
 // The figures of an answer, and its number at this interface.
-fn report(answer: octets::Answer, figures: &mut [u32]) -> u32
+fn figure(answer: octets::Answer, figures: &mut [u32]) -> u32
     ensures number { λ r. ⌜ r ≡ exportedNumber (length (now (figures .entry))) (answer .number) ⌝ }
     ensures figured { λ r. ⌜ now (figures .exit) ≡ exportedFigures r answer (length (now (figures .entry))) ⌝ }
 {

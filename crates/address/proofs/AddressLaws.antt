@@ -1,16 +1,17 @@
--- Laws of addresses as bits and of joins, bit by bit. Assumes nothing.
+-- Laws of addresses as bits and of joins, bit by bit.
 use Prim.Native.Nat.{ℕ, zero, suc, _+_, _-_, _≤_, _<_}
 use mathlib.Core.Path.{_≡_, refl, ap, _∙_, sym}
 use mathlib.Core.Bool.{Bool, true, false}
 use mathlib.Core.List.{List, [], _∷_, _++_, append-nil}
 use lib.Dec.{ltb}
-use lib.ListN.{length, getD, take, drop, length-append, length-take, length-drop, take-append-drop, drop-of-length-le}
+use lib.ListN.{length, getD, take, drop, length-append, length-take, length-drop, drop-of-length-le}
 use lib.Seq.{take-all, getD-take, getD-drop, ext-getD}
 use native.Mathlib.Omega.{arith}
 use native.Mathlib.Nat.{mod-one}
 use borrow.Author.Tests.{ltb-true, ltb-false}
 use Rattle.octets.specs.Octets.{Small}
-use Rattle.bits.specs.Bits.{Bits, octetsFor, packFrom, pack}
+use Rattle.bits.specs.Bits.{octetsFor, packFrom, pack, unpack}
+use Rattle.bits.specs.Packing.{Bits}
 use Rattle.bits.proofs.BitLaws.{unpack-length, pack-unpack}
 use Rattle.bits.proofs.PackingLaws.{pack-length, unpack-pack, unpack-bits, bits-append, bits-take, bits-drop}
 use Rattle.address.specs.Address.{bits, bitAt, joinOf}
@@ -72,13 +73,15 @@ module _ (h l : List ℕ) (at : ℕ) (hl : length h ≡ 16) (ll : length l ≡ 1
   unfolding joinOf
   join-small = pack-small (take at (bits h) ++ drop at (bits l)) joined-bits
 
+  -- Theorem: the bits of a join are the first bits of the one address and the rest of the other
   pub join-bits : bits (joinOf h l at) ≡ take at (bits h) ++ drop at (bits l)
-  unfolding joinOf
+  unfolding joinOf bits unpack pack packFrom
   join-bits =
       let s = take at (bits h) ++ drop at (bits l) in
       let u = unpack-pack 128 s (omega (arith, joined-count)) joined-bits [] in
       rw (joined-count, append-nil (packFrom 0 0 s)) at u
 
+  -- Theorem: a bit before the place is that of the first address
   pub join-bit-high : (i : ℕ) → i < at → bitAt (joinOf h l at) i ≡ bitAt h i
   unfolding bitAt
   join-bit-high i p =
@@ -86,6 +89,7 @@ module _ (h l : List ℕ) (at : ℕ) (hl : length h ≡ 16) (ll : length l ≡ 1
       let e : getD (take at s) i 0 ≡ getD (take at (bits h)) i 0 = rw (splice-take at (bits h) (bits l) (bits-even h l hl ll)) in
       rw join-bits (rw (getD-take at s i 0 p, getD-take at (bits h) i 0 p) at e)
 
+  -- Theorem: a bit from the place on is that of the second address
   pub join-bit-low : (i : ℕ) → at ≤ i → bitAt (joinOf h l at) i ≡ bitAt l i
   unfolding bitAt
   join-bit-low i p =
@@ -96,16 +100,19 @@ module _ (h l : List ℕ) (at : ℕ) (hl : length h ≡ 16) (ll : length l ≡ 1
 
 -- only the bits on each side of the place count
 module _ (x y z : List ℕ) (xl : length x ≡ 16) (yl : length y ≡ 16) (zl : length z ≡ 16) where
+  -- Theorem: of the second address only the bits from the place on count
   pub join-again-low : (at : ℕ) → joinOf z (joinOf y x at) at ≡ joinOf z x at
   unfolding joinOf
   join-again-low at =
       ap (λ (bs : List ℕ). pack (take at (bits z) ++ bs)) (ap (drop at) (join-bits y x at yl xl) ∙ splice-drop at (bits y) (bits x) (bits-even y x yl xl))
 
+  -- Theorem: of the first address only the bits before the place count
   pub join-again-high : (at : ℕ) → joinOf (joinOf z y at) x at ≡ joinOf z x at
   unfolding joinOf
   join-again-high at =
       ap (λ (bs : List ℕ). pack (bs ++ drop at (bits x))) (ap (take at) (join-bits z y at zl yl) ∙ splice-take at (bits z) (bits y) (bits-even z y zl yl))
 
+  -- Theorem: three addresses joined at two places: it is the same which join comes first
   pub join-assoc : (k l : ℕ) → k ≤ l → joinOf (joinOf z y k) x l ≡ joinOf z (joinOf y x l) k
   join-assoc k l p =
       bit-ext (joinOf zy x l) (joinOf z yx k) (join-length zy x l zyl xl) (join-length z yx k zl yxl) (join-small zy x l zyl xl) (join-small z yx k zl yxl)
@@ -133,11 +140,12 @@ module _ (x y z : List ℕ) (xl : length x ≡ 16) (yl : length y ≡ 16) (zl : 
       go i false false f g =
           join-bit-low zy x l zyl xl i (ltb-false i l g) ∙ sym (join-bit-low z yx k zl yxl i (ltb-false i k f) ∙ join-bit-low y x l yl xl i (ltb-false i l g))
 
--- a join that takes all from one side
+-- Theorem: joined at 0 it is all of the second address
 pub join-zero : (h l : List ℕ) → length l ≡ 16 → Small l → joinOf h l 0 ≡ l
 unfolding joinOf
 join-zero h l e s = pack-of-bits l e s
 
+-- Theorem: joined at 128 or further on it is all of the first address
 pub join-all : (h l : List ℕ) (at : ℕ) → length h ≡ 16 → length l ≡ 16 → Small h → 128 ≤ at → joinOf h l at ≡ h
 unfolding joinOf
 join-all h l at e f s p =
@@ -146,7 +154,3 @@ join-all h l at e f s p =
     let b : take at (bits h) ≡ bits h = take-all at (bits h) (omega arith) in
     let d : drop at (bits l) ≡ [] = drop-of-length-le (bits l) {i = at} (omega arith) in
     rw (b, d, append-nil (bits h)) (pack-of-bits h e s)
-
-pub join-same : (a : List ℕ) (at : ℕ) → length a ≡ 16 → Small a → joinOf a a at ≡ a
-unfolding joinOf
-join-same a at e s = rw (take-append-drop at (bits a)) (pack-of-bits a e s)

@@ -1,4 +1,4 @@
--- The join octet by octet, and the masks that the code joins by. Assumes nothing.
+-- The join octet by octet, and the masks that the code joins by.
 use Prim.Native.Nat.{ℕ, zero, suc, _+_, _-_, _*_, _/_, _%_, _^_, _≤_, _<_, min}
 use mathlib.Core.Path.{_≡_, refl, ap, _∙_, sym}
 use mathlib.Core.Bool.{Bool, true, false}
@@ -13,9 +13,9 @@ use native.Mathlib.Nat.{mod-eq-of-lt, mod-lt, zero-add}
 use native.Mathlib.Numerals.{add-one}
 use borrow.Author.Tests.{ltb-true, ltb-false}
 use Rattle.octets.specs.Octets.{Small}
-use Rattle.bits.specs.Bits.{bitsOf, unpack, packFrom}
+use Rattle.bits.specs.Bits.{bitsOf, unpack, packFrom, pack}
 use Rattle.bits.proofs.BitLaws.{pack-some, pack-full, unpack-octet}
-use Rattle.address.specs.Address.{joinOf}
+use Rattle.address.specs.Address.{joinOf, bits}
 use Rattle.bits.proofs.UnpackLaws.{octet-take, octet-drop, past-octet, beyond-octet}
 
 -- the first n bits of an octet, then those of another
@@ -74,10 +74,10 @@ join-octets (suc k) at (x ∷ xs) (y ∷ ys) s e p =
     let z : at - suc k * 8 ≡ at - 8 - k * 8 = omega arith in
     rw (join-step at x y xs ys (s 0), z) (join-octets k (at - 8) xs ys (λ i. s (suc i)) (omega arith) (omega arith))
 
--- the picture in octets: those before the place from the first address, one with bits of both, the rest from the second
+-- Theorem: the picture in octets: those before the place from the first address, one with bits of both, the rest from the second
 pub join-octet : (h l : List ℕ) (at k : ℕ) → length h ≡ 16 → length l ≡ 16 → Small h → k < 16
     → getD (joinOf h l at) k 0 ≡ mix (min 8 (at - k * 8)) (getD h k 0) (getD l k 0)
-unfolding joinOf
+unfolding joinOf pack packFrom bits unpack
 join-octet h l at k e f s p = rw (e, f) at (join-octets k at h l s (e ∙ sym f) (omega arith))
 
 -- one octet more is written

@@ -2,3 +2,4 @@ pub mod AddressLaws
 pub mod JoinLaws
 pub mod ClearLaws
 pub mod OrderLaws
+pub mod Computing

@@ -1,4 +1,4 @@
--- Laws of the order of addresses. Assumes nothing.
+-- Laws of the order of addresses.
 use Prim.Native.Nat.{ℕ, suc, _+_, _*_, _^_, _≤_, _<_}
 use mathlib.Core.Path.{_≡_, refl, ap, _∙_, sym}
 use mathlib.Core.Logic.{_⊎_, inl, inr, ⊎-elim}
@@ -52,6 +52,7 @@ unfolding orderOf
 order-same [] = refl
 order-same (x ∷ xs) = order-even x x xs xs refl ∙ order-same xs
 
+-- Theorem: only equal lists are answered `Same`
 pub same-equal : (a b : List ℕ) → orderOf a b ≡ Same → a ≡ b
 unfolding orderOf
 same-equal [] [] h = refl
@@ -64,6 +65,7 @@ same-equal (x ∷ xs) (y ∷ ys) h = go (standing x y) (λ t. same-equal xs ys t
     go (even p) ih = cc (p, ih (sym (order-even x y xs ys p) ∙ h))
     go (more p) ih = cc (order-more x y xs ys p)
 
+-- Theorem: and all equal lists are
 pub equal-same : (a b : List ℕ) → a ≡ b → orderOf a b ≡ Same
 equal-same a b h = rw (sym h) (order-same a)
 
@@ -94,7 +96,7 @@ pub precedes-after : (a b : List ℕ) → Precedes b a → orderOf a b ≡ After
 unfolding opposite
 precedes-after a b h = order-flip b a ∙ ap opposite h
 
--- a strict and total order
+-- Theorem: the order is strict: nothing comes before itself
 pub precedes-irreflexive : (a : List ℕ) → Precedes a a → ⊥
 precedes-irreflexive a h = let z : _≡_ {A = ℕ} 0 1 = cc (order-same a) in omega arith
 
@@ -106,6 +108,7 @@ precedes-heads x y xs ys h = go (standing x y)
     go (even p) = inr (p, sym (order-even x y xs ys p) ∙ h)
     go (more p) = let z : _≡_ {A = ℕ} 0 1 = cc (order-more x y xs ys p) in let v : ⊥ = omega arith in absurd v
 
+-- Theorem: the order is transitive
 pub precedes-transitive : (a b c : List ℕ) → Precedes a b → Precedes b c → Precedes a c
 unfolding orderOf
 precedes-transitive [] [] c h k = k
@@ -121,6 +124,7 @@ precedes-transitive (x ∷ xs) (y ∷ ys) (z ∷ zs) h k = go (precedes-heads x 
     go (inr p) (inl q) ih = order-less x z xs zs (omega arith)
     go (inr p) (inr q) ih = order-even x z xs zs (omega arith) ∙ ih (p .1) (q .1)
 
+-- Theorem: the order is total: of two lists one comes before the other, or they are equal
 pub precedes-total : (a b : List ℕ) → Precedes a b ⊎ ((a ≡ b) ⊎ Precedes b a)
 precedes-total a b = go (orderOf a b) refl
   where
@@ -129,7 +133,7 @@ precedes-total a b = go (orderOf a b) refl
     go Same e = inr (inl (same-equal a b e))
     go After e = inr (inr (after-precedes a b e))
 
--- between addresses the order is that of their numbers
+-- Theorem: an address that comes before another writes a smaller number
 pub precedes-value : (a b : List ℕ) → length a ≡ length b → Small a → Small b → Precedes a b → valueOf a < valueOf b
 unfolding valueOf orderOf
 precedes-value [] [] e s t h = let z : _≡_ {A = ℕ} 0 1 = cc in omega arith
@@ -142,6 +146,7 @@ precedes-value (x ∷ xs) (y ∷ ys) e s t h = go (precedes-heads x y xs ys h) (
     go (inl p) n ih = let d = digits-lt p (value-small xs (λ i. s (suc i))) in rw (← n) (omega arith)
     go (inr p) n ih = rw (← n, p .0) (omega (arith, ih n (p .1)))
 
+-- Theorem: an address that writes a smaller number comes before
 pub value-precedes : (a b : List ℕ) → length a ≡ length b → Small a → Small b → valueOf a < valueOf b → Precedes a b
 value-precedes a b e s t h =
     ⊎-elim (λ p. p) (⊎-elim (λ p. let z : ⊥ = omega (arith, ap valueOf p) in absurd z) (λ p. let z : ⊥ = omega (arith, precedes-value b a (sym e) t s p) in absurd z)) (precedes-total a b)

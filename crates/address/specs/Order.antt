@@ -1,4 +1,4 @@
--- The ascending order of addresses (01, What comes back): by the octets, the first that differ decide. Assumes nothing.
+-- The ascending order of addresses (01, What comes back): by the octets, the first that differ decide.
 use Prim.Native.Nat.{ℕ}
 use mathlib.Core.Path.{_≡_}
 use mathlib.Core.Bool.{true, false}
@@ -12,11 +12,7 @@ unfoldable pub orderOf : List ℕ → List ℕ → Order
 orderOf [] [] = Same
 orderOf [] (y ∷ ys) = Before
 orderOf (x ∷ xs) [] = After
-orderOf (x ∷ xs) (y ∷ ys) =
-    elim (ltb x y) [
-      | true ↦ Before
-      | false ↦ elim (ltb y x) [ true ↦ After | false ↦ orderOf xs ys ]
-    ]
+orderOf (x ∷ xs) (y ∷ ys) = elim (ltb x y) [ true ↦ Before | false ↦ elim (ltb y x) [ true ↦ After | false ↦ orderOf xs ys ] ]
 
 -- the first comes strictly before the second
 abbrev pub Precedes : List ℕ → List ℕ → Type 0

@@ -1,4 +1,4 @@
--- Laws of bits in octets. Assumes nothing.
+-- Laws of bits in octets.
 use Prim.Native.Nat.{ℕ, zero, suc, _+_, _-_, _*_, _/_, _%_, _^_, _≤_, _<_, min}
 use mathlib.Core.Path.{_≡_, refl, ap, _∙_, sym}
 use mathlib.Core.Bool.{Bool, true, false}
@@ -53,7 +53,7 @@ pack-full (suc m) h v x rest p =
     rw (packFrom, ne-eqb h 7 (λ q. omega arith), pack-full m (h + 1) (v * 2 + x / 2 ^ suc m % 2) x rest (omega arith), value-more (suc m) v x)
 
 pub unpack-zero : (xs : List ℕ) → unpack 0 xs ≡ []
-unfolding unpack
+unfolding unpack bitsOf
 unpack-zero [] = refl
 unpack-zero (x ∷ xs) = unpack-zero xs
 
@@ -93,6 +93,7 @@ unpack-part n x xs h k l e =
     let v : (0 * 2 ^ n + x / 2 ^ (8 - n) % 2 ^ n) * 2 ^ (8 - n) ≡ x = omega arith in
     rw (m, z, unpack-zero xs, pack-some n 0 0 (x / 2 ^ (8 - n)) [] (omega arith), zero-add n, packFrom, ne-eqb n 0 (λ y. omega arith)) (rw (zero-add n, v))
 
+-- Theorem: octets unpacked and packed again are the octets, where they are as many as the bits take and the unused bits are zero
 pub pack-unpack : (n : ℕ) (xs : List ℕ) → Small xs → length xs ≡ octetsFor n → getD xs (octetsFor n - 1) 0 % 2 ^ (octetsFor n * 8 - n) ≡ 0
     → packFrom 0 0 (unpack n xs) ≡ xs
 unfolding unpack packFrom

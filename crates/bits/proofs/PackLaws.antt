@@ -1,4 +1,4 @@
--- Laws of bits packed into a lent output. Assumes nothing.
+-- Laws of bits packed into a lent output.
 use Prim.Native.Nat.{ℕ, suc, _+_, _-_, _*_, _/_, _%_, _^_, _≤_, _<_, min}
 use mathlib.Core.Path.{_≡_, ap, _∙_, sym}
 use mathlib.Core.List.{List, [], _∷_, _++_, append-assoc, append-nil}

@@ -1,4 +1,4 @@
--- Bits packed into octets and unpacked again. Assumes nothing.
+-- Bits packed into octets and unpacked again.
 use Prim.Native.Nat.{ℕ, zero, suc, _+_, _-_, _*_, _/_, _%_, _^_, _≤_, _<_, min}
 use mathlib.Core.Path.{_≡_, refl, ap, _∙_, sym}
 use mathlib.Core.Bool.{Bool, true, false}
@@ -11,7 +11,8 @@ use lib.Arith.{digits-lt}
 use native.Mathlib.Omega.{arith}
 use native.Mathlib.Nat.{zero-add, add-zero, mod-eq-of-lt, pow-suc, mod-one}
 use borrow.Author.Tests.{eqb-true, eqb-false, ltb-true, ltb-false, ne-eqb}
-use Rattle.bits.specs.Bits.{Bits, bitsOf, octetsFor, unpack, packFrom, pack}
+use Rattle.bits.specs.Bits.{bitsOf, octetsFor, unpack, packFrom, pack}
+use Rattle.bits.specs.Packing.{Bits}
 use Rattle.octets.proofs.OctetLaws.{nil-of-length, under-drop, under-take, under-append}
 use Rattle.bits.proofs.BitLaws.{pack-some, pack-full, unpack-zero, unpack-octet}
 
@@ -142,7 +143,7 @@ unpack-part-again n v rest h =
     let z : n - 8 ≡ 0 = omega arith in
     rw (m, z, unpack-zero rest, shl-shr v (8 - n)) (append-nil (bitsOf n v))
 
--- unpacking what was packed gives the bits back, whatever octets come after
+-- Theorem: unpacking what was packed gives the bits back, whatever octets come after
 pub unpack-pack : (fuel : ℕ) (bs : List ℕ) → length bs ≤ fuel → Bits bs → (rest : List ℕ) → unpack (length bs) (packFrom 0 0 bs ++ rest) ≡ bs
 unpack-pack zero bs f h rest =
     let e : bs ≡ [] = nil-of-length bs (omega arith) in

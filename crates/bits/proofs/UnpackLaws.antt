@@ -1,4 +1,4 @@
--- Laws of unpacking octet by octet, and of what packing gives. Assumes nothing.
+-- Laws of unpacking octet by octet, and of what packing gives.
 use Prim.Native.Nat.{ℕ, suc, _+_, _-_, _*_, _/_, _^_, _≤_, _<_, min}
 use mathlib.Core.Path.{_≡_, refl, ap, _∙_, sym}
 use mathlib.Core.Bool.{Bool, true, false}
@@ -12,7 +12,8 @@ use native.Mathlib.Nat.{pow-suc}
 use borrow.Author.Tests.{ltb-true, ltb-false, eqb-true, eqb-false}
 use native.Mathlib.Numerals.{add-one}
 use Rattle.octets.specs.Octets.{Small}
-use Rattle.bits.specs.Bits.{Bits, bitsOf, unpack, packFrom, pack}
+use Rattle.bits.specs.Bits.{bitsOf, unpack, packFrom, pack}
+use Rattle.bits.specs.Packing.{Bits}
 use Rattle.bits.proofs.BitLaws.{bits-length, bits-split, unpack-zero, unpack-octet}
 use Rattle.octets.proofs.SmallLaws.{small-cons}
 

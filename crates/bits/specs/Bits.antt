@@ -1,13 +1,8 @@
--- The bits of octets, and the octets that hold bits. The highest bit of an octet comes first throughout. Assumes nothing.
+-- The bits of octets, and the octets that hold bits. The highest bit of an octet comes first throughout.
 use Prim.Native.Nat.{ℕ, zero, suc, _+_, _-_, _*_, _/_, _%_, _^_, min}
 use mathlib.Core.Bool.{true, false}
 use mathlib.Core.List.{List, [], _∷_, _++_}
 use lib.Dec.{eqb}
-use Rattle.octets.specs.Octets.{Under}
-
--- each number of the list is a bit
-abbrev pub Bits : List ℕ → Type 0
-Bits bs = Under 2 bs
 
 -- the lowest m bits of a number, the highest of them first
 unfoldable pub bitsOf : ℕ → ℕ → List ℕ
@@ -20,7 +15,6 @@ octetsFor n = (n + 7) / 8
 
 -- the first n bits of octets; all of their bits where they have fewer than n
 unfoldable pub unpack : ℕ → List ℕ → List ℕ
-unfolding bitsOf
 unpack n [] = []
 unpack n (x ∷ xs) = bitsOf (min 8 n) (x / 2 ^ (8 - min 8 n)) ++ unpack (n - 8) xs
 
@@ -31,5 +25,4 @@ packFrom h v (b ∷ bs) = elim (eqb h 7) [ true ↦ (v * 2 + b) ∷ packFrom 0 0
 
 -- the octets that hold bits, from the highest bit of the first octet on
 unfoldable pub pack : List ℕ → List ℕ
-unfolding packFrom
 pack bs = packFrom 0 0 bs

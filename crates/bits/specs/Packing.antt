@@ -1,11 +1,16 @@
--- Bits on their way into a lent output, for the contracts of the functions that pack: the code's own, nothing that a reader must believe. Assumes nothing.
+-- Bits on their way into a lent output, for the contracts of the functions that pack: the code's own, nothing that a reader must believe.
 use Prim.Native.Nat.{ℕ, _+_, _-_, _*_, _/_, _^_, _≤_, _<_}
 use mathlib.Core.Path.{_≡_}
 use mathlib.Core.List.{List, [], _++_}
 use lib.ListN.{length, take, drop}
 use Rattle.octets.specs.Octets.{blank}
+use Rattle.octets.specs.Each.{Under}
 use Rattle.bits.specs.Bits.{packFrom}
 use Rattle.bits.specs.declared.inside.Packer.{Packer}
+
+-- each number of the list is a bit
+abbrev pub Bits : List ℕ → Type 0
+Bits bs = Under 2 bs
 
 -- nothing but zeros from a place on
 abbrev pub Clean : List ℕ → ℕ → Type 0

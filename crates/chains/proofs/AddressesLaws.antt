@@ -1,21 +1,27 @@
--- The addresses of a name: which they are, and that they stand in ascending order, each once. Assumes nothing.
+-- The addresses of a name: which they are, and that they stand in ascending order, each once.
 use Prim.Native.Nat.{ℕ}
 use mathlib.Core.Path.{_≡_, refl, sym, ap, subst, _∙_}
 use mathlib.Core.Logic.{_⊎_, inl, inr, ⊎-elim, _↔_}
 use mathlib.Core.Bool.{Bool, true, false}
 use mathlib.Core.List.{List, [], _∷_}
 use lib.Dec.{eqb}
+use lib.ListN.{length, getD}
 use borrow.Author.Tests.{eqb-true, eqb-false}
+use Rattle.octets.specs.Each.{Each}
+use Rattle.octets.proofs.FlatLaws.{each-at}
 use Rattle.address.specs.declared.Order.{Order}
 use Rattle.address.specs.declared.Order.the-variants.{Before, Same, After}
 use Rattle.address.specs.Order.{orderOf, Precedes}
 use Rattle.address.proofs.OrderLaws.{same-equal, after-precedes, precedes-irreflexive, precedes-transitive}
 use Rattle.chains.specs.Lists.{In, Distinct, pick}
-use Rattle.chains.specs.Graph.{Graph, Sound}
+use Rattle.chains.specs.Graph.{Graph}
+use Rattle.chains.specs.Sound.{Sound}
 use Rattle.chains.specs.Chain.{Spells, lastLength, spelt}
 use Rattle.chains.specs.Listing.{chainsOf}
 use Rattle.chains.specs.Addresses.{Ascending, choose, insert, gather, addressesOf}
+use Rattle.chains.proofs.ListLaws.{in-at}
 use Rattle.chains.proofs.Listed.{listed-chain, chain-listed}
+use Rattle.chains.proofs.SpellingLaws.{spelt-length}
 use Rattle.chains.proofs.Cutting.{spells-distinct}
 
 -- ---- one address put in its place
@@ -120,16 +126,20 @@ module _ {N : Type 0} (g : Graph N) (b : ℕ) (spelling : List ℕ → List ℕ)
 
 -- ---- those of a name
 module _ {N : Type 0} (g : Graph N) (x : N) where
-  -- they stand in ascending order
+  -- Theorem: the addresses listed stand in ascending order
   pub addresses-ascending : Ascending (addressesOf g x)
   unfolding addressesOf
   addresses-ascending = gather-ascending g 128 (spelt g) (chainsOf g x) [] tt
 
-  -- so none stands twice
-  pub addresses-distinct : Distinct (addressesOf g x)
-  addresses-distinct = ascending-distinct (addressesOf g x) addresses-ascending
+  -- each has sixteen octets
+  pub addresses-each : Each 16 (addressesOf g x)
+  unfolding addressesOf
+  addresses-each =
+      each-at 16 (addressesOf g x) (λ i h.
+      ⊎-elim (λ k. absurd k) (λ r. ap length (sym (r .3)) ∙ spelt-length g (r .0)) (in-gather g 128 (spelt g) (getD (addressesOf g x) i []) (chainsOf g x) [] (in-at (addressesOf g x) i h)))
 
-  -- they are the addresses that the complete chains of x spell, chains that use a record again among them: no address is lost by leaving repeats out
+  -- Theorem: the addresses listed are those that the complete chains of x spell, chains that use a record again among them: no address is lost by
+  -- leaving repeats out
   pub spells-listed : Sound g → (a : List ℕ) → In a (addressesOf g x) ↔ Spells g x a
   unfolding addressesOf
   spells-listed sound a = (
@@ -137,7 +147,7 @@ module _ {N : Type 0} (g : Graph N) (x : N) where
     λ s. let r = spells-distinct g sound x a s in gather-in g 128 (spelt g) a (chainsOf g x) [] (inr (r .0, chain-listed g x sound (r .0) (r .1) (r .2), r .3, r .4)),
   )
 
-  -- and so they are the only ascending list of what the chains of x spell
+  -- Theorem: they are the only ascending list of what the chains of x spell
   pub addresses-only : Sound g → (l : List (List ℕ)) → Ascending l → ((a : List ℕ) → In a l ↔ Spells g x a) → l ≡ addressesOf g x
   addresses-only sound l h t =
       ascending-same l (addressesOf g x) h addresses-ascending (λ a. (λ m. spells-listed sound a .1 (t a .0 m), λ m. t a .1 (spells-listed sound a .0 m)))

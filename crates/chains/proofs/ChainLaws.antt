@@ -1,4 +1,4 @@
--- Laws of the bits that a chain spells. Assumes nothing.
+-- Laws of the bits that a chain spells.
 use Prim.Native.Nat.{ℕ, _≤_, _<_}
 use mathlib.Core.Path.{_≡_, refl, ap}
 use mathlib.Core.Bool.{Bool, true, false}

@@ -1,11 +1,12 @@
--- Leaving repeats out loses no address: prefix lengths never grow along a chain, so a loop has records of one length, and cutting it keeps every bit. Assumes nothing.
+-- Leaving repeats out loses no address: prefix lengths never grow along a chain, so a loop has records of one length, and cutting it keeps every bit.
 use Prim.Native.Nat.{ℕ, _≤_, _<_}
 use mathlib.Core.Path.{_≡_, refl, sym, ap, subst, _∙_}
 use mathlib.Core.Logic.{inl, inr}
 use mathlib.Core.List.{List, [], _∷_}
 use native.Mathlib.Omega.{arith}
 use Rattle.chains.specs.Lists.{In, Distinct}
-use Rattle.chains.specs.Graph.{Graph, Sound}
+use Rattle.chains.specs.Graph.{Graph}
+use Rattle.chains.specs.Sound.{Sound}
 use Rattle.chains.specs.Chain.{Chain, Complete, Spells, lastLength, speltBit, spelt}
 use Rattle.chains.proofs.ListLaws.{find}
 use Rattle.chains.proofs.ChainLaws.{spelt-later, spelt-after, spelt-same}
@@ -74,7 +75,7 @@ module _ {N : Type 0} (g : Graph N) where
   tidy x b [] w = record { tidied = []; walk = tt; distinct = tt; ends = refl; bits = λ k. refl }
   tidy x b (i ∷ p) w = put x b i p w (tidy (g .target i) (g .len i) p (w .1))
 
-  -- every address of a name is spelt by a complete chain that uses no position twice
+  -- Theorem: every address of a name is spelt by a complete chain that uses no position twice
   pub spells-distinct : Sound g → (x : N) (a : List ℕ) → Spells g x a → (p : List ℕ) × Chain g x p × Distinct p × Complete g p × (spelt g p ≡ a)
   unfolding lastLength
   spells-distinct sound x a s =

@@ -1,11 +1,11 @@
--- 01's examples of lookup, with numbers for names, by computation. Assumes nothing.
+-- 01's examples of lookup, with numbers for names, by computation.
 use Prim.Native.Nat.{ℕ}
 use mathlib.Core.Path.{_≡_, refl}
 use mathlib.Core.List.{List, [], _∷_, _++_, map}
 use lib.Dec.{eqb}
 use lib.ListN.{length, getD}
 use Rattle.octets.specs.Octets.{blank, same}
-use Rattle.bits.specs.Bits.{unpack, pack}
+use Rattle.bits.specs.Bits.{unpack, pack, packFrom, bitsOf}
 use Rattle.address.specs.Address.{bits, bitAt}
 use Rattle.address.specs.Order.{orderOf}
 use Rattle.chains.specs.Lists.{upTo}
@@ -137,9 +137,9 @@ unfolding cases graphOf workOf chainsOf chainsFrom paths extend upTo free blank
 work-holds = refl
 
 addresses-hold : map (λ c. addressesOf (graphOf (c .table)) (c .name)) cases ≡ map (λ c. c .addresses) cases
-unfolding cases graphOf addressesOf gather insert orderOf lastLength spelt speltBit bitAt bits unpack pack chainsOf chainsFrom paths extend upTo free blank
+unfolding cases graphOf addressesOf gather insert orderOf lastLength spelt speltBit bitAt bits unpack pack chainsOf chainsFrom paths extend upTo free blank packFrom bitsOf
 addresses-hold = refl
 
 lifetimes-hold : map (λ c. map (lifetimeOf (graphOf (c .table)) (c .name)) (c .addresses)) cases ≡ map (λ c. c .lifetimes) cases
-unfolding cases graphOf lifetimeOf lifetimeIn leastTtl same lastLength spelt speltBit bitAt bits unpack pack chainsOf chainsFrom paths extend upTo free blank
+unfolding cases graphOf lifetimeOf lifetimeIn leastTtl same lastLength spelt speltBit bitAt bits unpack pack chainsOf chainsFrom paths extend upTo free blank packFrom bitsOf
 lifetimes-hold = refl

@@ -1,5 +1,5 @@
 -- Folding a name keeps every name's addresses where no referrer ignores an unfinished record of it: a step into r and on into q is then one step into
--- the record that they make, in both directions, and with the same bits. Assumes nothing.
+-- the record that they make, in both directions, and with the same bits.
 use Prim.Native.Nat.{ℕ, _≤_, _<_}
 use mathlib.Core.Path.{_≡_, refl, sym, ap, subst, _∙_}
 use mathlib.Core.Logic.{_⊎_, inl, inr, ⊎-elim, _↔_}
@@ -199,7 +199,7 @@ module _ {N : Type 0} (g : Graph N) (x : N) (h : Graph N) (sixteen : (i : ℕ) �
         onward h g (h .target j) (j′ ∷ q) i (sym t) y (k .found)
         (⊎-elim (λ v. omega (arith, l .0 .2)) (λ u. quiet i (k .found .first) b y u (subst (λ (m : N). g .owns (k .found .first) m ≡ true) t (k .found .starts .1))) (k .short)))
 
-    -- every name has the same addresses after folding x as before
+    -- Theorem: every name has the same addresses after folding x as before, where no referrer of x is shorter than an unfinished record of x
     pub fold-keeps : (n : N) (a : List ℕ) → Spells g n a ↔ Spells h n a
     unfolding lastLength
     fold-keeps n a = (ahead, back)

@@ -1,4 +1,4 @@
--- The lifetime that is computed is the least TTL among the records of the chains that spell the address, and TTLs change nothing else. Assumes nothing.
+-- The lifetime that is computed is the least TTL among the records of the chains that spell the address, and TTLs change nothing else.
 use Prim.Native.Nat.{ℕ, _≤_, _<_, min}
 use mathlib.Core.Path.{_≡_, refl, sym, ap, subst, _∙_}
 use mathlib.Core.Logic.{_⊎_, inl, inr, ⊎-elim}
@@ -12,11 +12,13 @@ use Rattle.octets.specs.Octets.{blank, same}
 use Rattle.octets.proofs.OctetLaws.{length-blank}
 use Rattle.octets.proofs.SameLaws.{same-eq, same-refl}
 use Rattle.chains.specs.Lists.{In, Distinct, pick}
-use Rattle.chains.specs.Graph.{Graph, Sound, maxTtl}
+use Rattle.chains.specs.Graph.{Graph, maxTtl}
+use Rattle.chains.specs.Sound.{Sound}
 use Rattle.chains.specs.Chain.{Chain, Complete, lastLength, spelt}
 use Rattle.chains.specs.Listing.{chainsOf, workOf}
-use Rattle.chains.specs.Addresses.{addressesOf, spell}
-use Rattle.chains.specs.Lifetimes.{Source, Lifetime, leastTtl, lifetimeIn, lifetimeOf, forget}
+use Rattle.chains.specs.Addresses.{addressesOf}
+use Rattle.chains.specs.Spelling.{spell}
+use Rattle.chains.specs.Lifetimes.{Source, Lifetime, leastTtl, lifetimeIn, lifetimeOf}
 use Rattle.chains.specs.Renaming.{Alike, Renamed}
 use Rattle.chains.proofs.ListLaws.{true-both, both-true}
 use Rattle.chains.proofs.Listed.{listed-chain, chain-listed}
@@ -106,7 +108,7 @@ module _ {N : Type 0} (g : Graph N) where
 
   -- ---- the lifetime of an address of a name
   module _ (sound : Sound g) (x : N) (a : List ℕ) where
-    -- no address outlives a record of a chain that spells it
+    -- Theorem: no address outlives a record of the complete chains that use no position twice and spell it
     pub outlives-none : (i : ℕ) → Source g x a i → lifetimeOf g x a ≤ g .ttl i
     unfolding lifetimeOf
     outlives-none i s = lifetime-record 128 (spelt g) a maxTtl (chainsOf g x) (s .0) i (chain-listed g x sound (s .0) (s .1) (s .2)) (s .3, s .4) (s .5)
@@ -115,7 +117,7 @@ module _ {N : Type 0} (g : Graph N) where
     greatest : (i : ℕ) → Source g x a i → i < g .size → lifetimeOf g x a ≡ maxTtl → Lifetime g x a (lifetimeOf g x a)
     greatest i s h e = record { source = i; is = s; has = omega (arith, outlives-none i s, sound .lived i h); least = outlives-none }
 
-    -- the theorem: it is the least TTL among the records of the complete chains that use no position twice and spell the address
+    -- Theorem: the lifetime computed is the least TTL among the records of the complete chains that use no position twice and spell the address
     pub lifetime-least : In a (addressesOf g x) → Lifetime g x a (lifetimeOf g x a)
     unfolding lifetimeOf
     lifetime-least m = go (spells-distinct g sound x a (spells-listed g x sound a .0 m))
@@ -132,7 +134,7 @@ module _ {N : Type 0} (g : Graph N) where
         go ([], c, d, z, e) = absurd c
         go (i ∷ p, c, d, z, e) = from i p c (i ∷ p, c, d, z, e, inl refl)
 
-    -- and there is but one such number
+    -- Theorem: no other number is that least TTL
     pub lifetime-only : (t : ℕ) → Lifetime g x a t → In a (addressesOf g x) → t ≡ lifetimeOf g x a
     lifetime-only t l m =
         let k = lifetime-least m in
@@ -179,15 +181,22 @@ module _ {N M : Type 0} (g : Graph N) (h : Graph M) (r : Renamed g h) (ttls : (i
       ∙ ap (lifetimeIn h 128 (spelt h) a maxTtl) (chains-renamed g h r x y e)
 
 -- ---- TTLs change no chain, no work and no address, nor their order
+-- the same records with no TTLs
+abbrev pub forget : {N : Type 0} → Graph N → Graph N
+forget g = record { size = g .size; owns = g .owns; target = g .target; len = g .len; addr = g .addr; ttl = λ i. 0 }
+
 module _ {N : Type 0} (g : Graph N) (x : N) where
   forgotten : Renamed g (forget g)
   forgotten = record { sizes = refl; lengths = λ i l. refl; addresses = λ i l. refl; targets = λ i l z j k. refl }
 
+  -- Theorem: TTLs change no chain
   pub chains-forget : chainsOf (forget g) x ≡ chainsOf g x
   chains-forget = sym (chains-renamed g (forget g) forgotten x x (λ i l. refl))
 
+  -- Theorem: TTLs do not change the work
   pub work-forget : workOf (forget g) x ≡ workOf g x
   work-forget = sym (work-renamed g (forget g) forgotten x x (λ i l. refl))
 
+  -- Theorem: TTLs change no address
   pub addresses-forget : addressesOf (forget g) x ≡ addressesOf g x
   addresses-forget = sym (addresses-renamed g (forget g) forgotten x x (λ i l. refl))

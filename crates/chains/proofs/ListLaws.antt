@@ -1,4 +1,4 @@
--- Laws of tests, of membership, of lists without repeats and of lists in sequence. Assumes nothing.
+-- Laws of tests, of membership, of lists without repeats and of lists in sequence.
 use Prim.Native.Nat.{ℕ, zero, suc, _≤_, _<_}
 use mathlib.Core.Path.{_≡_, refl, sym, ap, subst, _∙_}
 use mathlib.Core.Logic.{_⊎_, inl, inr, ⊎-elim}

@@ -1,7 +1,7 @@
--- The listing holds every chain of the name that uses no position twice, exactly once, and nothing else (01, Chains: work). Assumes nothing.
+-- The listing holds every chain of the name that uses no position twice, exactly once, and nothing else (01, Chains: work).
 use Prim.Native.Nat.{ℕ, zero, suc, _≤_, _<_}
 use mathlib.Core.Path.{_≡_, refl, sym, subst, _∙_}
-use mathlib.Core.Logic.{_⊎_, inl, inr, ⊎-elim, _↔_}
+use mathlib.Core.Logic.{inl, inr, ⊎-elim, _↔_}
 use mathlib.Core.Bool.{Bool, true, false}
 use mathlib.Core.List.{List, [], _∷_, map, cons≢nil, tail-eq-of-cons-eq}
 use native.Mathlib.Decide.{ℕ-discrete}
@@ -12,7 +12,8 @@ use lib.Seq.{getD-set-same, getD-set-other}
 use Rattle.octets.specs.Octets.{blank}
 use Rattle.octets.proofs.OctetLaws.{length-blank}
 use Rattle.chains.specs.Lists.{In, Distinct, pick}
-use Rattle.chains.specs.Graph.{Graph, Sound}
+use Rattle.chains.specs.Graph.{Graph}
+use Rattle.chains.specs.Sound.{Sound}
 use Rattle.chains.specs.Chain.{Chain}
 use Rattle.chains.specs.Listing.{free, fits, extend, paths, chainsFrom, chainsOf, workOf}
 use Rattle.chains.proofs.ListLaws.{in-upTo, upTo-in, in-pick, in-map, map-in, distinct-pick, distinct-map, distinct-upTo, same-length}
@@ -169,11 +170,11 @@ module _ {N : Type 0} (g : Graph N) (x : N) where
         let f : Fresh (blank n) p = distinct-fresh (blank n) p (λ i m. getD-replicate n i 0 0 (walk-within g x 128 i p w m)) d in
         good-paths g (suc (free (blank n))) (blank n) x 128 p (filled p c, w, f) (omega (arith, long-enough (blank n) p f (within p w)))
 
-    -- the listing holds every chain of x that uses no position twice, complete or not, exactly once
+    -- Theorem: the listing holds every chain of x that uses no position twice, complete or not, exactly once
     pub listed-once : Distinct (chainsOf g x) × ((p : List ℕ) → In p (chainsOf g x) ↔ (Chain g x p × Distinct p))
     listed-once = (chains-distinct, λ p. (listed-chain p, λ h. chain-listed p (h .0) (h .1)))
 
-    -- so the work is their number, however they are listed
+    -- Theorem: the work is the number of those chains, however they are listed
     pub work-counts : (ps : List (List ℕ)) → Distinct ps → ((p : List ℕ) → In p ps ↔ (Chain g x p × Distinct p)) → length ps ≡ workOf g x
     unfolding workOf
     work-counts ps d h =

@@ -1,4 +1,4 @@
--- Laws of the listing: marks, one step, and the test of a step. Assumes nothing.
+-- Laws of the listing: marks, one step, and the test of a step.
 use Prim.Native.Nat.{ℕ, zero, suc, _≤_, _<_}
 use mathlib.Core.Path.{_≡_, ap}
 use mathlib.Core.Bool.{Bool, true, false}

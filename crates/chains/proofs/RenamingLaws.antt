@@ -1,4 +1,4 @@
--- Names count for nothing but the records that they own: another set of names changes neither chains nor work nor addresses. Assumes nothing.
+-- Names count for nothing but the records that they own: another set of names changes neither chains nor work nor addresses.
 use Prim.Native.Nat.{ℕ, zero, suc, _≤_, _<_}
 use mathlib.Core.Path.{_≡_, refl, sym, ap, subst, subst₂, _∙_}
 use mathlib.Core.Logic.{inl, inr, _↔_}
@@ -11,7 +11,8 @@ use lib.ListN.{length, getD, set}
 use Rattle.octets.specs.Octets.{Small, blank}
 use Rattle.address.specs.Address.{bitAt}
 use Rattle.chains.specs.Lists.{In, pick}
-use Rattle.chains.specs.Graph.{Graph, Sound, maxTtl}
+use Rattle.chains.specs.Graph.{Graph, maxTtl}
+use Rattle.chains.specs.Sound.{Sound}
 use Rattle.chains.specs.Chain.{Starts, Linked, Chain, Spells, lastLength, speltBit, spelt}
 use Rattle.chains.specs.Listing.{free, fits, extend, paths, chainsFrom, chainsOf, workOf}
 use Rattle.chains.specs.Addresses.{insert, gather, addressesOf}
@@ -159,5 +160,6 @@ module _ {N M : Type 0} (g : Graph N) (h : Graph M) (r : Renamed g h) (x : N) (y
   pub spells-renamed : (a : List ℕ) → Spells g x a ↔ Spells h y a
   spells-renamed a = (spells-over g h r x y a e, spells-over h g (renamed-back g h r) y x a (alike-back g h r x y e))
 
+  -- Theorem: other names for the same records change no chain, no work and no address
   pub renaming : (chainsOf g x ≡ chainsOf h y) × (workOf g x ≡ workOf h y) × (addressesOf g x ≡ addressesOf h y) × ((a : List ℕ) → Spells g x a ↔ Spells h y a)
   renaming = (chains-renamed, work-renamed, addresses-renamed, spells-renamed)

@@ -1,6 +1,6 @@
--- The address that a chain spells, bit by bit, is the fold of joins: from its end, and from its start as a search goes. Assumes nothing.
+-- The address that a chain spells, bit by bit, is the fold of joins: from its end, and from its start as a search goes.
 use Prim.Native.Nat.{ℕ, zero, suc, _≤_, _<_}
-use mathlib.Core.Path.{_≡_, refl, sym, ap, subst, _∙_}
+use mathlib.Core.Path.{_≡_, refl, sym, ap, _∙_}
 use mathlib.Core.Logic.{inl, inr}
 use mathlib.Core.Bool.{Bool, true, false}
 use mathlib.Core.List.{List, [], _∷_, append-nil}
@@ -9,17 +9,20 @@ use lib.Dec.{leb, eqb}
 use lib.ListN.{length, getD}
 use borrow.Author.Tests.{leb-true, leb-false, eqb-true}
 use Rattle.octets.specs.Octets.{Small, blank}
-use Rattle.bits.specs.Bits.{Bits, octetsFor, pack, packFrom}
+use Rattle.bits.specs.Bits.{octetsFor, pack, packFrom}
+use Rattle.bits.specs.Packing.{Bits}
 use Rattle.octets.proofs.OctetLaws.{length-blank}
 use Rattle.bits.proofs.PackingLaws.{pack-length, unpack-pack, unpack-bits, bits-append}
 use Rattle.address.specs.Address.{bits, bitAt, joinOf}
 use Rattle.bits.proofs.UnpackLaws.{pack-small}
 use Rattle.address.proofs.AddressLaws.{bit-ext, join-length, join-small, join-bit-high, join-bit-low, join-assoc, join-zero, join-all}
 use Rattle.chains.specs.Lists.{In, pick, upTo}
-use Rattle.chains.specs.Graph.{Graph, Sound}
-use Rattle.chains.specs.Chain.{Linked, Chain, Complete, Spells, lastLength, speltBit, spelt}
+use Rattle.chains.specs.Graph.{Graph}
+use Rattle.chains.specs.Sound.{Sound}
+use Rattle.chains.specs.Chain.{Linked, Chain, Complete, lastLength, speltBit, spelt}
 use Rattle.chains.specs.Listing.{chainsOf}
-use Rattle.chains.specs.Addresses.{insert, gather, addressesOf, spell}
+use Rattle.chains.specs.Addresses.{insert, gather, addressesOf}
+use Rattle.chains.specs.Spelling.{spell}
 use Rattle.chains.proofs.ListLaws.{length-upTo, getD-upTo}
 use Rattle.chains.proofs.Listed.{listed-chain}
 use Rattle.chains.proofs.ChainLaws.{spelt-own, spelt-later}
@@ -69,12 +72,8 @@ module _ {N : Type 0} (g : Graph N) where
         let u = unpack-pack 128 row (omega (arith, n)) row-bits [] in
         ap (λ (bs : List ℕ). getD bs k 0) (rw (n, append-nil (packFrom 0 0 row)) at u) ∙ getD-upTo (speltBit g p) 128 k h
 
-  -- an address of a name has sixteen octets
-  pub spells-address : (x : N) (a : List ℕ) → Spells g x a → (length a ≡ 16) × Small a
-  spells-address x a s = (ap length (sym (s .3)) ∙ spelt-length (s .0), subst Small (s .3) (spelt-small (s .0)))
-
   module _ (sound : Sound g) where
-    -- from the end: what the rest spells up to the record's prefix length, and the record's own bits after it
+    -- Theorem: bit by bit is by joins: what the rest spells up to the record's prefix length, and the record's own bits after it
     pub spelt-join : (i : ℕ) (p : List ℕ) → i < g .size → spelt g (i ∷ p) ≡ joinOf (spelt g p) (g .addr i) (g .len i)
     spelt-join i p h =
         let n = sound .sixteen i h in
@@ -104,7 +103,7 @@ module _ {N : Type 0} (g : Graph N) where
         ∙ sym (join-assoc a (g .addr i) (spelt g (j ∷ p)) n m (spelt-length (j ∷ p)) (g .len i) b s)
         ∙ ap (λ (v : List ℕ). joinOf v a b) (sym (spelt-join i (j ∷ p) h))
 
-    -- so a search that begins with 128 bits open spells what the chain spells
+    -- Theorem: a search that begins with 128 bits open spells what the chain spells
     pub spell-spelt : (x : N) (p a : List ℕ) → Chain g x p → Complete g p → length a ≡ 16 → spell g 128 a p ≡ spelt g p
     unfolding lastLength
     spell-spelt x (i ∷ p) a c z n =

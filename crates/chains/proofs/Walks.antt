@@ -1,4 +1,4 @@
--- Chains as the listing goes through them: from a name and a number of open bits, the empty chain among them. Assumes nothing.
+-- Chains as the listing goes through them: from a name and a number of open bits, the empty chain among them.
 use Prim.Native.Nat.{ℕ, _≤_, _<_}
 use mathlib.Core.Path.{_≡_, refl, sym, subst}
 use mathlib.Core.Logic.{inl, inr}

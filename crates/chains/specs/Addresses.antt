@@ -1,10 +1,9 @@
--- The addresses of a name in ascending order, each once (01, Chains and What comes back). Assumes nothing.
+-- The addresses of a name in ascending order, each once (01, Chains and What comes back).
 use Prim.Native.Nat.{ℕ}
 use mathlib.Core.List.{List, [], _∷_}
 use lib.Dec.{eqb}
 use Rattle.address.specs.declared.Order.{Order}
 use Rattle.address.specs.declared.Order.the-variants.{Before, Same, After}
-use Rattle.address.specs.Address.{joinOf}
 use Rattle.address.specs.Order.{orderOf, Precedes}
 use Rattle.chains.specs.Lists.{In, pick}
 use Rattle.chains.specs.Graph.{Graph}
@@ -36,8 +35,3 @@ module _ {N : Type 0} (g : Graph N) where
   -- the addresses of the name x
   unfoldable pub addressesOf : N → List (List ℕ)
   addressesOf x = gather 128 (spelt g) [] (chainsOf g x)
-
-  -- how a search spells on its way: a has the bits from b on, each record gives those before, and its prefix length is what stays open
-  unfoldable pub spell : ℕ → List ℕ → List ℕ → List ℕ
-  spell b a [] = a
-  spell b a (i ∷ p) = spell (g .len i) (joinOf (g .addr i) a b) p

@@ -1,4 +1,4 @@
--- Chains of A6 records and the addresses that they spell (01, Chains), as statements about records. A chain is a list of positions. Assumes nothing.
+-- Chains of A6 records and the addresses that they spell (01, Chains), as statements about records. A chain is a list of positions.
 use Prim.Native.Nat.{ℕ, _≤_, _<_}
 use mathlib.Core.Path.{_≡_}
 use mathlib.Core.Bool.{true}

@@ -1,4 +1,5 @@
--- Folding a name X into those that refer to it (01, Collapse of a name X), as a statement about the graphs before and after. Assumes nothing.
+-- Folding a name X (01, Collapse of a name X), as a statement about the graphs before and after.
+-- The code's own: nothing that a reader must believe.
 use Prim.Native.Nat.{ℕ, _≤_, _<_}
 use mathlib.Core.Path.{_≡_}
 use mathlib.Core.Logic.{_⊎_}

@@ -1,10 +1,7 @@
--- The A6 records of a plan as a graph (01, Chains): what the records say, and nothing of how they are stored. Assumes nothing.
-use Prim.Native.Nat.{ℕ, _≤_, _<_}
-use mathlib.Core.Path.{_≡_}
+-- The A6 records of a plan as a graph (01, Chains): what the records say, and nothing of how they are stored.
+use Prim.Native.Nat.{ℕ}
 use mathlib.Core.Bool.{Bool}
 use mathlib.Core.List.{List}
-use lib.ListN.{length}
-use Rattle.octets.specs.Octets.{Small}
 
 -- The greatest TTL that a record may have (T-01).
 abbrev pub maxTtl : ℕ
@@ -20,10 +17,3 @@ pub record Graph (N : Type 0) : Type 0 where
   pub len : ℕ → ℕ
   pub addr : ℕ → List ℕ
   pub ttl : ℕ → ℕ
-
--- what a table in order gives (01, The plan table; T-01): addresses of sixteen octets, prefix lengths from 0 to 128, TTLs up to the greatest
-pub record Sound {N : Type 0} (g : Graph N) : Type 0 where
-  pub sixteen : (i : ℕ) → i < g .size → length (g .addr i) ≡ 16
-  pub small : (i : ℕ) → i < g .size → Small (g .addr i)
-  pub short : (i : ℕ) → i < g .size → g .len i ≤ 128
-  pub lived : (i : ℕ) → i < g .size → g .ttl i ≤ maxTtl

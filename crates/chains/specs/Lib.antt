@@ -6,3 +6,5 @@ pub mod Addresses
 pub mod Lifetimes
 pub mod Renaming
 pub mod Folding
+pub mod Sound
+pub mod Spelling

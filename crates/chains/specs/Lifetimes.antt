@@ -1,4 +1,4 @@
--- How long the addresses of a name live (T-01): the least TTL among the records of the chains that spell them. Assumes nothing.
+-- How long the addresses of a name live (T-01): the least TTL among the records of the chains that spell them.
 use Prim.Native.Nat.{ℕ, _≤_, min}
 use mathlib.Core.Path.{_≡_}
 use mathlib.Core.Bool.{_&&_}
@@ -36,7 +36,3 @@ module _ {N : Type 0} (g : Graph N) where
   -- the lifetime of the address a of the name x
   unfoldable pub lifetimeOf : N → List ℕ → ℕ
   lifetimeOf x a = lifetimeIn 128 (spelt g) a maxTtl (chainsOf g x)
-
-  -- the same records with no TTLs: what chains and addresses were before there were any
-  abbrev pub forget : Graph N
-  forget = record { size = g .size; owns = g .owns; target = g .target; len = g .len; addr = g .addr; ttl = λ i. 0 }

@@ -1,4 +1,4 @@
--- The chains of a name that use no record position twice, listed, and the work (01, Chains). Assumes nothing.
+-- The chains of a name that use no record position twice, listed, and the work (01, Chains).
 use Prim.Native.Nat.{ℕ, zero, suc}
 use mathlib.Core.Bool.{Bool, _&&_}
 use mathlib.Core.List.{List, [], _∷_, map}

@@ -1,4 +1,4 @@
--- What the definitions of this crate say of lists. Assumes nothing.
+-- What the definitions of this crate say of lists.
 use Prim.Native.Nat.{ℕ, zero, suc}
 use mathlib.Core.Path.{_≡_}
 use mathlib.Core.Logic.{_⊎_}

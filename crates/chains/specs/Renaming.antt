@@ -1,4 +1,4 @@
--- When two graphs differ in the names alone, or in the TTLs besides. Assumes nothing.
+-- When two graphs differ in the names alone, or in the TTLs besides. The code's own: nothing that a reader must believe.
 use Prim.Native.Nat.{ℕ, _<_}
 use mathlib.Core.Path.{_≡_}
 use Rattle.chains.specs.Graph.{Graph}

@@ -1,4 +1,4 @@
--- What a caller of the running `collapse` learns is `collapseOf`, which Demand 3 speaks of. Assumes nothing.
+-- What a caller of the running `collapse` learns is `collapseOf`, which Demand 3 speaks of.
 use Prim.Native.Nat.{ℕ}
 use mathlib.Core.Path.{_≡_}
 use mathlib.Core.List.{List}
@@ -9,6 +9,7 @@ use Rattle.octets.specs.declared.Answer.{Answer}
 use Rattle.collapse.specs.Collapse.{collapseOf}
 use Rattle.collapse.proofs.collapse.Reads as running
 
+-- Theorem: what a caller of the running `collapse` learns is `collapseOf`
 pub learnt : (κs : Lfts 3) (table name out outEnd : RefT (List ℕ)) (r : Answer)
     → running.Learnt κs (table, (name, (out, tt))) r (table, (name, (outEnd, tt)))
     → (r, now outEnd) ≡ collapseOf (now table) (now name) (length (now out))

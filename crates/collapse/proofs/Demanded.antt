@@ -1,4 +1,4 @@
--- Demand 3 holds: a call keeps the table in order and every name's addresses, and so does a list of calls. Assumes nothing.
+-- Demand 3 holds: a call keeps the table in order and every name's addresses, and so does a list of calls.
 use Prim.Native.Nat.{ℕ, zero, suc, _-_, _*_, _/_, _%_, _≤_}
 use mathlib.Core.Path.{_≡_, refl, sym, subst, _∙_}
 use mathlib.Core.Logic.{_⊎_, inl, inr, ⊎-elim, _↔_}
@@ -16,6 +16,8 @@ use Rattle.labels.specs.Scan.{wellFormed}
 use Rattle.chains.specs.Chain.{Spells}
 use Rattle.plan.specs.Layout.{recordSize, maxRecords}
 use Rattle.plan.specs.Check.{InOrder}
+use Rattle.octets.proofs.AnswerLaws.{by-number}
+use Rattle.plan.proofs.EntryLaws.{entry-name, entry-done}
 use Rattle.plan.proofs.LayoutLaws.{octets-length}
 use Rattle.plan.specs.Graph.{graphOf}
 use Rattle.collapse.specs.Fold.{foldOf, reviving}
@@ -26,7 +28,7 @@ use Rattle.collapse.proofs.TestLaws.{reviving-is, is-reviving}
 use Rattle.collapse.proofs.FoldLaws.{fold-whole, fold-rule}
 use Rattle.collapse.proofs.OrderedLaws.{fold-ordered}
 use Rattle.collapse.proofs.Kept.{fold-spells}
-use Rattle.collapse.proofs.CollapseLaws.{passes-room, passes-many, passes-not, number-name, number-output, number-reviving, number-room, number-done, answer-number, done-answer, done-out}
+use Rattle.collapse.proofs.CollapseLaws.{passes-room, passes-many, passes-not, number-entry, number-output, number-reviving, number-room, number-done, accepted-answer, accepted-out}
 
 -- ---- the records of the rule pass the room or 1,024
 module _ (size : ℕ) (rs : List (List ℕ)) where
@@ -58,7 +60,7 @@ after-refusal t o k e = rw e
 after-done : (t x : List ℕ) (size : ℕ) → numberOf t x size ≡ 0 → after t (collapseOf t x size) ≡ flat (foldOf x t)
 unfolding after collapseOf
 after-done t x size e =
-    rw (done-answer t x size e, done-out t x size e)
+    rw (accepted-answer t x size e, accepted-out t x size e)
     (take-at (flat (foldOf x t)) (blank (size - length (foldOf x t) * recordSize)) (length (foldOf x t) * recordSize) (octets-length (foldOf x t) (fold-whole x t)))
 
 module _ (t : List ℕ) (o : InOrder t) (c : Call) where
@@ -70,7 +72,12 @@ module _ (t : List ℕ) (o : InOrder t) (c : Call) where
 
   given : gives t c .0 .number ≡ n
   unfolding gives collapseOf
-  given = answer-number t x (c .size)
+  given = by-number n _ _
+
+  misnamed : wellFormed x ≡ false → n ≡ 4
+  misnamed w =
+      let e = entry-name t x o w in
+      number-entry t x (c .size) (λ z. omega (arith, e, z)) ∙ e
 
   -- ---- each call is answered as the demand says
   module _ (w : wellFormed x ≡ true) (e : c .size % recordSize ≡ 0) where
@@ -79,11 +86,11 @@ module _ (t : List ℕ) (o : InOrder t) (c : Call) where
     rest v = go (passes (c .size) (ruled t c)) refl
       where
         go : (b : Bool) → passes (c .size) (ruled t c) ≡ b → ((n ≡ 7) × (passes (c .size) (ruled t c) ≡ true)) ⊎ ((n ≡ 0) × (passes (c .size) (ruled t c) ≡ false))
-        go true p = inl (number-room t x (c .size) o w e v p, p)
-        go false p = inr (number-done t x (c .size) o w e v p, p)
+        go true p = inl (number-room t x (c .size) (entry-done t x o w) e v p, p)
+        go false p = inr (number-done t x (c .size) (entry-done t x o w) e v p, p)
 
     nine : (n ≡ 9) ↔ Reviving x t
-    nine = (λ k. go k (reviving x t) refl, λ r. number-reviving t x (c .size) o w e (is-reviving x t r))
+    nine = (λ k. go k (reviving x t) refl, λ r. number-reviving t x (c .size) (entry-done t x o w) e (is-reviving x t r))
       where
         go : n ≡ 9 → (b : Bool) → reviving x t ≡ b → Reviving x t
         go k true v = reviving-is x t v
@@ -95,24 +102,24 @@ module _ (t : List ℕ) (o : InOrder t) (c : Call) where
     seven : (Reviving x t → ⊥) → (n ≡ 7) ↔ Passes (c .size) (ruled t c)
     seven q = (
       λ k. ⊎-elim (λ p. passing-is (c .size) (ruled t c) (p .1)) (λ p. let z : ⊥ = omega (arith, p .0) in absurd z) (rest (silent q)),
-      λ p. number-room t x (c .size) o w e (silent q) (is-passing (c .size) (ruled t c) p),
+      λ p. number-room t x (c .size) (entry-done t x o w) e (silent q) (is-passing (c .size) (ruled t c) p),
     )
 
     zero-due : (Reviving x t → ⊥) → (Passes (c .size) (ruled t c) → ⊥) → n ≡ 0
-    zero-due q p = number-done t x (c .size) o w e (silent q) (refuted (passes (c .size) (ruled t c)) (λ h. p (passing-is (c .size) (ruled t c) h)))
+    zero-due q p = number-done t x (c .size) (entry-done t x o w) e (silent q) (refuted (passes (c .size) (ruled t c)) (λ h. p (passing-is (c .size) (ruled t c) h)))
 
   answered : Answered t c
   unfolding gives collapseOf
   answered = record {
     rule = fold-rule x t o;
-    misnamed = λ w. given ∙ number-name t x (c .size) o w;
-    misshapen = λ w e. given ∙ number-output t x (c .size) o w e;
+    misnamed = λ w. given ∙ misnamed w;
+    misshapen = λ w e. given ∙ number-output t x (c .size) (entry-done t x o w) e;
     revives = λ w e. (λ k. nine w e .0 (sym given ∙ k), λ r. given ∙ nine w e .1 r);
     passes = λ w e q. (λ k. seven w e q .0 (sym given ∙ k), λ p. given ∙ seven w e q .1 p);
     accepted = λ w e q p.
         let z = zero-due w e q p in
-        let a = done-answer t x (c .size) z in
-        let b = done-out t x (c .size) z in
+        let a = accepted-answer t x (c .size) z in
+        let b = accepted-out t x (c .size) z in
         (λ i. (a i, b i), after-done t x (c .size) z);
   }
 
@@ -125,9 +132,9 @@ module _ (t : List ℕ) (o : InOrder t) (c : Call) where
   clean z = by-name (wellFormed x) refl (eqb (c .size % recordSize) 0) refl (reviving x t) refl
     where
       by-name : (a : Bool) → wellFormed x ≡ a → (b : Bool) → eqb (c .size % recordSize) 0 ≡ b → (d : Bool) → reviving x t ≡ d → Clean
-      by-name false w b e d v = let y : ⊥ = omega (arith, number-name t x (c .size) o w) in absurd y
-      by-name true w false e d v = let y : ⊥ = omega (arith, number-output t x (c .size) o w (eqb-false (c .size % recordSize) 0 e)) in absurd y
-      by-name true w true e true v = let y : ⊥ = omega (arith, number-reviving t x (c .size) o w (eqb-true (c .size % recordSize) 0 e) v) in absurd y
+      by-name false w b e d v = let y : ⊥ = omega (arith, misnamed w) in absurd y
+      by-name true w false e d v = let y : ⊥ = omega (arith, number-output t x (c .size) (entry-done t x o w) (eqb-false (c .size % recordSize) 0 e)) in absurd y
+      by-name true w true e true v = let y : ⊥ = omega (arith, number-reviving t x (c .size) (entry-done t x o w) (eqb-true (c .size % recordSize) 0 e) v) in absurd y
       by-name true w true e false v = record {
         quiet = λ r. clash (is-reviving x t r) v;
         few = ⊎-elim (λ p. let y : ⊥ = omega (arith, p .0) in absurd y) (λ p. not-passing (c .size) (ruled t c) (p .1) .1) (rest w (eqb-true (c .size % recordSize) 0 e) v);
@@ -168,6 +175,7 @@ spelt t o (c ∷ calls) m a =
     let r = spelt (after t (gives t c)) (s .ordered) calls m a in
     (λ p. s .spelt m a .0 (r .0 p), λ p. r .1 (s .spelt m a .1 p))
 
+-- Theorem: any list of collapses keeps every name's addresses, and each call is refused or gives the rule's table
 pub demand3 : Demand3
 demand3 t o calls = record {
   each = λ earlier later c e. (ordered t o earlier, answered (inHand t earlier) (ordered t o earlier) c);

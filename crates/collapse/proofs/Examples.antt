@@ -1,4 +1,4 @@
--- Collapses by computation: the marked ones of 01 (Examples to check), the edges of each number, and TTLs (T-01). Assumes nothing.
+-- Collapses by computation: the marked ones of 01 (Examples to check), the edges of each number, and TTLs (T-01).
 use Prim.Native.Nat.{ℕ, _+_, _*_}
 use mathlib.Core.Path.{_≡_, refl}
 use mathlib.Core.List.{List, [], _∷_, _++_, map}
@@ -9,6 +9,7 @@ use Rattle.octets.specs.Answers.{answering, refusal}
 use Rattle.octets.specs.declared.Answer.{Answer}
 use Rattle.plan.specs.Layout.{recordSize, slotSize, ttlSize, ttlPlace, a6, slotOf, recordOf}
 use Rattle.collapse.specs.Collapse.{collapseOf}
+use Rattle.collapse.proofs.Computing.{collapses-compute}
 
 -- names: h.a, p.a, q.a, x.a
 ha : List ℕ
@@ -144,5 +145,5 @@ cases =
     ∷ []
 
 pub examples : map given cases ≡ map expected cases
-unfolding given expected cases collapseOf
+unfolding collapses-compute given expected cases
 examples = refl

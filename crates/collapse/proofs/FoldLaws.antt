@@ -1,18 +1,19 @@
--- What the rule's records are and where they come from; they are those that the rule describes. Assumes nothing.
-use Prim.Native.Nat.{ℕ, zero, suc, _≤_, _<_}
+-- What the rule's records are and where they come from; they are those that the rule describes.
+use Prim.Native.Nat.{ℕ, zero, suc, _^_, _≤_, _<_}
 use mathlib.Core.Path.{_≡_, refl, sym, ap, _∙_}
 use mathlib.Core.Logic.{_⊎_, inl, inr, ⊎-elim}
 use mathlib.Core.Bool.{Bool, true, false}
 use mathlib.Core.List.{List, [], _∷_, _++_, append-nil}
 use native.Mathlib.Omega.{arith}
 use lib.ListN.{length, getD}
+use Rattle.octets.specs.Octets.{Small}
 use Rattle.octets.proofs.BoolLaws.{clash}
+use Rattle.octets.proofs.NumberLaws.{value-within}
 use Rattle.chains.specs.Lists.{In, upTo}
 use Rattle.chains.proofs.ListLaws.{in-at, in-upTo, upTo-in, in-pick}
-use Rattle.chains.specs.Graph.{maxTtl}
-use Rattle.plan.specs.Layout.{recordSize, ttlOf, countOf, recordAt}
+use Rattle.plan.specs.Layout.{recordSize, ttlSize, ttlPlace, ttlOf, countOf, recordAt}
 use Rattle.plan.specs.Check.{InOrder}
-use Rattle.plan.proofs.LayoutLaws.{Whole, record-length}
+use Rattle.plan.proofs.LayoutLaws.{Whole, record-length, record-small}
 use Rattle.plan.proofs.OrderLaws.{order-good}
 use Rattle.collapse.specs.Fold.{unfinished, continues, joinedOf, madeOf, placeOf, foldOf}
 use Rattle.collapse.specs.Rule.{Unfinished, Continues, Made, taken, passed, Ruled, replaced, copied}
@@ -79,12 +80,12 @@ module _ (x t : List ℕ) where
           let k : In s (recordAt t i ∷ []) = rw (place-off x t i e) at m in
           inl (record { i = i; there = h; other = λ u. clash (is-unfinished x (recordAt t i) u) e; same = ⊎-elim (λ p. p) (λ z. absurd z) k })
 
-  pub fold-source : (j : ℕ) → j < length (foldOf x t) → Copy (getD (foldOf x t) j []) ⊎ Source (getD (foldOf x t) j [])
+  pub fold-from : (s : List ℕ) → In s (foldOf x t) → Copy s ⊎ Source s
   unfolding foldOf
-  fold-source j h =
-      let s = getD (foldOf x t) j [] in
-      let k = in-upTo s (countOf t) (placeOf x t) (in-at (foldOf x t) j h) in
-      place-source s (k .0) (k .1) (k .2)
+  fold-from s m = let k = in-upTo s (countOf t) (placeOf x t) m in place-source s (k .0) (k .1) (k .2)
+
+  pub fold-source : (j : ℕ) → j < length (foldOf x t) → Copy (getD (foldOf x t) j []) ⊎ Source (getD (foldOf x t) j [])
+  fold-source j h = fold-from (getD (foldOf x t) j []) (in-at (foldOf x t) j h)
 
   -- ---- and that each has its place
   pub fold-keeps-other : (i : ℕ) → i < countOf t → (Unfinished x (recordAt t i) → ⊥) → (j : ℕ) × (j < length (foldOf x t)) × (getD (foldOf x t) j [] ≡ recordAt t i)
@@ -111,7 +112,7 @@ module _ (x t : List ℕ) where
       (fold-source j h)
 
   -- ---- the rule, record by record
-  made-rule : (r : List ℕ) → length r ≡ recordSize → ttlOf r ≤ maxTtl → (n : ℕ) → n ≤ countOf t → Made t r n (upTo n (madeOf t r))
+  made-rule : (r : List ℕ) → length r ≡ recordSize → ttlOf r < 2 ^ 32 → (n : ℕ) → n ≤ countOf t → Made t r n (upTo n (madeOf t r))
   unfolding upTo
   made-rule r w v zero h = rule.Made.start
   made-rule r w v (suc n) h = go (continues r (recordAt t n)) refl (made-rule r w v n (omega arith))
@@ -120,16 +121,24 @@ module _ (x t : List ℕ) where
       go true e d = rw (made-on t r n e) (taken (continues-is r (recordAt t n) e) (joins r (recordAt t n) w (record-length t n (omega arith)) (omega (arith, v))) d)
       go false e d = rw (made-off t r n e, append-nil (upTo n (madeOf t r))) (passed (λ c. clash (is-continues r (recordAt t n) c) e) d)
 
-  rule-to : InOrder t → (n : ℕ) → n ≤ countOf t → Ruled x t n (upTo n (placeOf x t))
+  rule-to : ((i : ℕ) → i < countOf t → ttlOf (recordAt t i) < 2 ^ 32) → (n : ℕ) → n ≤ countOf t → Ruled x t n (upTo n (placeOf x t))
   unfolding upTo
-  rule-to o zero h = rule.Ruled.start
-  rule-to o (suc n) h = go (unfinished x (recordAt t n)) refl (rule-to o n (omega arith))
+  rule-to v zero h = rule.Ruled.start
+  rule-to v (suc n) h = go (unfinished x (recordAt t n)) refl (rule-to v n (omega arith))
     where
       go : (b : Bool) → unfinished x (recordAt t n) ≡ b → Ruled x t n (upTo n (placeOf x t)) → Ruled x t (suc n) (upTo n (placeOf x t) ++ placeOf x t n)
       go true e d =
-          rw (place-on x t n e) (replaced (unfinished-is x (recordAt t n) e) (made-rule (recordAt t n) (record-length t n (omega arith)) (order-good t o n (omega arith) .lived) (countOf t) (omega arith)) d)
+          rw (place-on x t n e) (replaced (unfinished-is x (recordAt t n) e) (made-rule (recordAt t n) (record-length t n (omega arith)) (v n (omega arith)) (countOf t) (omega arith)) d)
       go false e d = rw (place-off x t n e) (copied (λ u. clash (is-unfinished x (recordAt t n) u) e) d)
 
-  pub fold-rule : InOrder t → Ruled x t (countOf t) (foldOf x t)
+  -- for a table whose TTLs fit four octets: one of octets, or one in order
+  fold-fits : ((i : ℕ) → i < countOf t → ttlOf (recordAt t i) < 2 ^ 32) → Ruled x t (countOf t) (foldOf x t)
   unfolding foldOf
-  fold-rule o = rule-to o (countOf t) (omega arith)
+  fold-fits v = rule-to v (countOf t) (omega arith)
+
+  pub fold-octets : Small t → Ruled x t (countOf t) (foldOf x t)
+  unfolding ttlOf
+  fold-octets s = fold-fits (λ i h. value-within ttlSize (recordAt t i) ttlPlace (omega (arith, record-length t i h)) (record-small t i s))
+
+  pub fold-rule : InOrder t → Ruled x t (countOf t) (foldOf x t)
+  fold-rule o = fold-fits (λ i h. omega (arith, order-good t o i h .lived))

@@ -1,4 +1,4 @@
--- A collapse keeps every name's addresses where it is not reviving: the rule's table is a folding of the graph, and no referrer ignores what it folds. Assumes nothing.
+-- A collapse keeps every name's addresses where it is not reviving: the rule's table is a folding of the graph, and no referrer ignores what it folds.
 use Prim.Native.Nat.{ℕ, _≤_, _<_}
 use mathlib.Core.Path.{_≡_, refl, sym, ap, ap₂, _∙_}
 use mathlib.Core.Logic.{inl, inr, ⊎-elim, _↔_}

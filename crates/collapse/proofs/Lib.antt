@@ -1,6 +1,7 @@
 pub mod TestLaws
 pub mod RecordLaws
 pub mod FoldLaws
+pub mod RuleLaws
 pub mod OrderedLaws
 pub mod Kept
 pub mod LinkLaws
@@ -9,3 +10,4 @@ pub mod CollapseLaws
 pub mod Demanded
 pub mod Contract
 pub mod Examples
+pub mod Computing

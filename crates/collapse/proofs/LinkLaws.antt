@@ -1,4 +1,4 @@
--- Laws of the linked records: the links of a bucket pass over no record of the names in it. Assumes nothing.
+-- Laws of the linked records: the links of a bucket pass over no record of the names in it.
 use Prim.Native.Nat.{ℕ, zero, suc, _+_, _-_, _%_, _≤_, _<_, min}
 use mathlib.Core.Path.{_≡_, refl, sym, ap, _∙_}
 use mathlib.Core.Bool.{Bool, true, false}
@@ -131,6 +131,13 @@ upTo-skip f a (suc b) h s = go (ℕ-discrete a (suc b)) (upTo-skip f a b)
     go (yes e) ih = rw e
     go (no e) ih = rw (s b (omega (arith, e)) (omega arith), append-nil (upTo b f)) (ih (omega (arith, e)) (λ k p q. s k p (omega arith)))
 
+-- a step of the walk from a along the bucket of record i's target: it comes to j, and nothing is made on the way
+pub record Walked (t : List ℕ) (i a j : ℕ) : Type 0 where
+  pub from : a ≤ j
+  pub within : j ≤ maxRecords
+  pub bucket : j < countOf t → bucketOf (ownerSlot (recordAt t j)) ≡ bucketOf (targetSlot (recordAt t i))
+  pub same : upTo (min j (countOf t)) (madeOf t (recordAt t i)) ≡ upTo a (madeOf t (recordAt t i))
+
 module _ (t : List ℕ) (o : InOrder t) (i : ℕ) (h : i < countOf t) (l : 0 < prefixAt t i) where
   -- a record of another bucket is no q
   made-other : (k : ℕ) → k < countOf t → belongs t (bucketOf (targetSlot (recordAt t i))) k ≡ false → madeOf t (recordAt t i) k ≡ []
@@ -149,14 +156,11 @@ module _ (t : List ℕ) (o : InOrder t) (i : ℕ) (h : i < countOf t) (l : 0 < p
       upTo-skip (madeOf t (recordAt t i)) a (min (firstIn t b a) (countOf t)) (omega arith)
       (λ k q r. made-other k (omega arith) (first-passed t b a k q (omega arith)))
 
-  -- a step of the walk along the bucket: where it comes to, and that nothing is made on the way
-  pub walked : (a j : ℕ) → a ≤ countOf t → countOf t ≤ maxRecords → j ≡ firstIn t (bucketOf (targetSlot (recordAt t i))) a
-      → (a ≤ j) × (j ≤ maxRecords) × (j < countOf t → bucketOf (ownerSlot (recordAt t j)) ≡ bucketOf (targetSlot (recordAt t i)))
-      × (upTo (min j (countOf t)) (madeOf t (recordAt t i)) ≡ upTo a (madeOf t (recordAt t i)))
+  pub walked : (a j : ℕ) → a ≤ countOf t → countOf t ≤ maxRecords → j ≡ firstIn t (bucketOf (targetSlot (recordAt t i))) a → Walked t i a j
   walked a j p m e =
-      let b = bucketOf (targetSlot (recordAt t i)) in (
-        rw e (first-from t b a),
-        rw e (first-within t b a (omega arith)),
-        (λ q. rw e (belongs-is t b (firstIn t b a) (first-found t b a (omega arith) (omega arith)) .1)),
-        rw e (walk a p),
-      )
+      let b = bucketOf (targetSlot (recordAt t i)) in record {
+        from = rw e (first-from t b a);
+        within = rw e (first-within t b a (omega arith));
+        bucket = λ q. rw e (belongs-is t b (firstIn t b a) (first-found t b a (omega arith) (omega arith)) .1);
+        same = rw e (walk a p);
+      }

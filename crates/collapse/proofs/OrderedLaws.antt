@@ -1,4 +1,4 @@
--- The rule keeps a table in order: made records keep the layout, and each DNAME is copied once, in order. Assumes nothing.
+-- The rule keeps a table in order: made records keep the layout, and each DNAME is copied once, in order.
 use Prim.Native.Nat.{ℕ, zero, suc, _+_, _-_, _≤_, _<_}
 use mathlib.Core.Path.{_≡_, refl, sym, ap, ap₂, subst, _∙_}
 use mathlib.Core.Logic.{⊎-elim}

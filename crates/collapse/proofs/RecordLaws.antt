@@ -1,4 +1,4 @@
--- The fields of the record that two records make, and that it keeps the layout. Assumes nothing.
+-- The fields of the record that two records make, and that it keeps the layout.
 use Prim.Native.Nat.{ℕ, _^_, _≤_, _<_, min}
 use mathlib.Core.Path.{_≡_, _∙_}
 use mathlib.Core.Logic.{inl}

@@ -1,4 +1,4 @@
--- Laws of the running pieces: the tests in the order of the code, test 9 by two numbers, and records stored one after the other. Assumes nothing.
+-- Laws of the running pieces: the tests in the order of the code, test 9 by two numbers, and records stored one after the other.
 use Prim.Native.Nat.{ℕ, zero, suc, _+_, _-_, _*_, _/_, _≤_, _<_, min, max}
 use mathlib.Core.Path.{_≡_, refl, sym, ap, _∙_}
 use mathlib.Core.Bool.{Bool, true, false, _&&_}
@@ -13,7 +13,7 @@ use borrow.Author.Tests.{lt-ltb, le-ltb, le-leb, lt-leb, ltb-true, ltb-false, eq
 use Rattle.octets.proofs.BoolLaws.{clash, refuted}
 use Rattle.plan.proofs.FaultLaws.{a6-not}
 use Rattle.octets.specs.Octets.{blank, flat}
-use Rattle.names.specs.Standard.{sameName, standardOf}
+use Rattle.names.specs.Standard.{Same, sameName}
 use Rattle.chains.specs.Lists.{pick, upTo}
 use Rattle.chains.proofs.ListLaws.{pick-true, pick-false, upTo-same}
 use Rattle.plan.specs.First.{some}
@@ -308,8 +308,8 @@ stored-cleared out new part rs n w e h f l p =
     length-take-le (length new - n * recordSize) (drop (n * recordSize) new) (omega (arith, length-drop (n * recordSize) new)) ∙ omega arith in
     rw (g, append-nil part, p, d, e, k)
 
--- ---- a name and its standard form are one name
-module _ (x y : List ℕ) (e : standardOf x ≡ standardOf y) where
+-- ---- two spellings of one name
+module _ (x y : List ℕ) (e : Same x y) where
   unfinished-same : (r : List ℕ) → unfinished x r ≡ unfinished y r
   unfolding unfinished sameName
   unfinished-same r = rw e

@@ -1,4 +1,4 @@
--- The tests of records decide the statements about them. Assumes nothing.
+-- The tests of records decide the statements about them.
 use Prim.Native.Nat.{ℕ, zero, suc, _+_, _<_}
 use mathlib.Core.Path.{_≡_, refl}
 use mathlib.Core.Bool.{Bool, true, false, _&&_}

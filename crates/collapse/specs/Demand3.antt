@@ -1,4 +1,4 @@
--- Demand 3 (01, Collapse of a name X): one claim about every list of collapses, from any table in order. Assumes nothing.
+-- Demand 3 (01, Collapse of a name X): one claim about every list of collapses, from any table in order.
 use Prim.Native.Nat.{ℕ, zero, suc, _-_, _*_, _/_, _%_, _<_}
 use mathlib.Core.Path.{_≡_}
 use mathlib.Core.Logic.{_⊎_, _↔_}
@@ -24,7 +24,6 @@ pub record Call : Type 0 where
 
 -- what a call gives on the table in hand
 unfoldable pub gives : List ℕ → Call → Answer × List ℕ
-unfolding collapseOf
 gives t c = collapseOf t (c .name) (c .size)
 
 -- the table in hand after a call that gave o: after 0 the records that it wrote, as many as it answered, without the zeros after them;
@@ -34,7 +33,6 @@ after t o = elim (o .0 .number) [ zero ↦ take (o .0 .count * recordSize) (o .1
 
 -- the table in hand after a list of calls
 unfoldable pub inHand : List ℕ → List Call → List ℕ
-unfolding gives after
 inHand t [] = t
 inHand t (c ∷ cs) = inHand (after t (gives t c)) cs
 

@@ -1,4 +1,4 @@
--- The same rule and the same test once more, as statements that a reader can hold against 01 (Collapse of a name X; number 9) and T-01. Assumes nothing.
+-- The same rule and the same test once more, as statements that a reader can hold against 01 (Collapse of a name X; number 9) and T-01.
 use Prim.Native.Nat.{ℕ, zero, suc, _≤_, _<_, min}
 use mathlib.Core.Path.{_≡_}
 use mathlib.Core.List.{List, [], _∷_, _++_}

@@ -1,4 +1,4 @@
--- What the pieces of the running collapse compute: the code's own, nothing that a reader must believe. Assumes nothing.
+-- What the pieces of the running collapse compute: the code's own, nothing that a reader must believe.
 use Prim.Native.Nat.{ℕ, zero, suc, _+_, _-_, _*_, _/_, _%_, _≤_, _<_, min, max}
 use mathlib.Core.Path.{_≡_}
 use mathlib.Core.Bool.{Bool, _&&_}

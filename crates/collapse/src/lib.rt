@@ -23,21 +23,19 @@ pub struct Span {
     pub longest: u8,
 }
 
-// The table with a name folded into those that refer to it, with zeros after it; or a refusal (01, What comes back).
+// The table with a name folded: what each unfinished record of it makes with the records of its target stands in its place. Zeros after it; or a
+// refusal (01, What comes back).
 pub fn collapse(table: &[u8], name: &[u8], out: &mut [u8]) -> octets::Answer
     ensures answer { λ r. ⌜ r ≡ collapseAnswer (now (table .entry)) (now (name .entry)) (length (now (out .entry))) ⌝ }
     ensures output { λ _. ⌜ now (out .exit) ≡ collapseOut (now (table .entry)) (now (name .entry)) (length (now (out .entry))) ⌝ }
 {
-    let checked = plan::check(table);
-    let number = checked.number;
-    if number != 0 {
-        return refuse(number, out);
-    }
-    let held = names::hold(name);
+    let entered = plan::inside::enter(table, name);
+    let number = entered.number;
+    let held = entered.name;
     let standard = held.octets;
     let n = octets::wide(held.length);
-    if n == 0 {
-        return refuse(4, out);
+    if number != 0 {
+        return refuse(number, out);
     }
     if out.len() % plan::inside::RECORD != 0 {
         return refuse(5, out);
@@ -101,7 +99,7 @@ fn is_unfinished(row: &[u8], name: &[u8]) -> bool
     if plan::inside::prefix_of(row) == 0 {
         return false;
     }
-    names::equal(plan::inside::name_in(plan::inside::owner_slot(row)), name)
+    names::inside::equal(plan::inside::name_in(plan::inside::owner_slot(row)), name)
 }
 
 // Whether a record is an A6 record whose target is a name.
@@ -115,7 +113,7 @@ fn is_referrer(row: &[u8], name: &[u8]) -> bool
     if plan::inside::prefix_of(row) == 0 {
         return false;
     }
-    names::equal(plan::inside::name_in(plan::inside::target_slot(row)), name)
+    names::inside::equal(plan::inside::name_in(plan::inside::target_slot(row)), name)
 }
 
 // Whether q is an A6 record that the target of the unfinished record r owns, no longer than r.
@@ -129,7 +127,7 @@ fn is_next(r: &[u8], q: &[u8]) -> bool
     if plan::inside::prefix_of(r) < plan::inside::prefix_of(q) {
         return false;
     }
-    names::equal(
+    names::inside::equal(
         plan::inside::name_in(plan::inside::owner_slot(q)),
         plan::inside::name_in(plan::inside::target_slot(r)),
     )

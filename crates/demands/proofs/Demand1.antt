@@ -1,8 +1,8 @@
 -- Demand 1: each public function asks nothing of its caller and promises just what its definition says, for every input; what refuses leaves its
 -- output and its figures zero. In a contract κs are the lifetimes of a call, `now x` is what the reference x shows, and `end` and `figured` are the
--- lent output and figures as the call leaves them. Assumes nothing.
-use Prim.Native.Nat.{ℕ, zero, suc, _<_}
-use mathlib.Core.Path.{_≡_, refl, ap, _∙_, sym}
+-- lent output and figures as the call leaves them.
+use Prim.Native.Nat.{ℕ, zero, suc, _<_, min}
+use mathlib.Core.Path.{_≡_, refl, _∙_, sym}
 use mathlib.Core.Logic.{_↔_}
 use mathlib.Core.Bool.{Bool, true, false}
 use mathlib.Core.List.{List}
@@ -11,14 +11,21 @@ use lib.ListN.{length, drop}
 use borrow.Author.Tests.{eqb-true, eqb-false, ltb-true, ltb-false}
 use contract.Lifetimes.{Lfts}
 use denote.Ref.{RefT, now}
-use Rattle.octets.specs.Octets.{blank, Small, same}
+use Rattle.octets.specs.Octets.{blank, same, flat}
 use Rattle.octets.specs.Zeros.{isBlank}
-use Rattle.octets.specs.Answers.{refusal}
+use Rattle.octets.specs.Numbers.{octetsOf}
+use Rattle.octets.specs.Answers.{refusal, answerBy, outBy}
+use Rattle.octets.proofs.AnswerLaws.{refused-out}
+use Rattle.octets.proofs.equal.Reads as equal
 use Rattle.octets.specs.declared.Answer.{Answer}
 use Rattle.octets.proofs.refused.Reads as refused
 use Rattle.octets.proofs.clear.Reads as clear
 use Rattle.octets.proofs.wide.Reads as wide
 use Rattle.octets.proofs.zeros.is_blank.Reads as is-blank
+use Rattle.octets.proofs.numbers.quarter_octets.Reads as quarter-octets
+use Rattle.octets.proofs.numbers.clear.Reads as numbers-clear
+use Rattle.octets.proofs.numbers.lesser.Reads as lesser
+use Rattle.octets.proofs.numbers.wide.Reads as numbers-wide
 use Rattle.address.specs.Address.{joinOf, clearTo}
 use Rattle.address.specs.Order.{orderOf}
 use Rattle.address.specs.declared.Order.{Order}
@@ -27,22 +34,19 @@ use Rattle.address.proofs.compare.Reads as compare
 use Rattle.address.proofs.is_clear.Reads as is-clear
 use Rattle.labels.specs.Scan as scans
 use Rattle.labels.specs.Scan.{scanOf}
-use Rattle.names.specs.Standard.{sameName, inStandardForm}
+use Rattle.names.specs.Standard.{standardOf, inStandardForm}
 use Rattle.names.specs.Name.{nameOf, heldOf}
-use Rattle.names.specs.Answers as standards
-use Rattle.labels.specs.Answers.{scanned, finish}
+use Rattle.labels.specs.Answers.{scanned}
 use Rattle.names.specs.Answers.{standardNumber, standardAnswer, standardOut}
 use Rattle.labels.specs.declared.Scanned.{Scanned}
 use Rattle.names.specs.declared.Name.{Name}
 use Rattle.names.proofs.standard_form.Reads as standard-form
-use Rattle.names.proofs.equal.Reads as equal
 use Rattle.labels.proofs.scan.Reads as scan
 use Rattle.names.proofs.is_standard.Reads as is-standard
 use Rattle.names.proofs.hold.Reads as hold
 use Rattle.a6.specs.Data.{blankValue}
-use Rattle.a6.specs.Read.{readNumber, readOf, readingFor, refusedReading}
-use Rattle.a6.specs.Write as writes
-use Rattle.a6.specs.Write.{writeNumber, writeAnswer, writeOut}
+use Rattle.a6.specs.Read.{readNumber, valueOf, readOf, readingFor}
+use Rattle.a6.specs.Write.{dataOf, writeNumber, writeAnswer, writeOut}
 use Rattle.a6.specs.declared.Value.{Value}
 use Rattle.a6.specs.declared.Reading.{Reading}
 use Rattle.a6.proofs.read.Reads as read
@@ -51,24 +55,18 @@ use Rattle.plan.specs.Layout.{countOf}
 use Rattle.plan.specs.Check.{checkOf, checkAnswer, InOrder}
 use Rattle.plan.specs.Part.{IsPart, emptyPart, ownerPart}
 use Rattle.plan.specs.Graph.{graphOf}
-use Rattle.plan.specs.declared.Part.{Part}
 use Rattle.plan.proofs.PartLaws.{part-refused, part-past}
 use Rattle.plan.proofs.check.Reads as check
 use Rattle.plan.proofs.owner.Reads as owner
-use Rattle.plan.proofs.owner_part.Reads as owner-part
-use Rattle.search.specs.Answers.{answerOf, outputOf, livesOf}
+use Rattle.search.specs.Answers.{outputOf, livesOf}
 use Rattle.forward.specs.Lookup.{lookupNumber, lookupAnswer, lookupOut, lookupTtls}
 use Rattle.forward.proofs.lookup.Reads as lookup
-use Rattle.reverse.specs.Walk as walks
-use Rattle.reverse.specs.Answers as replies
-use Rattle.reverse.specs.Answers.{endOf, reverseAnswer, reverseOut}
+use Rattle.reverse.specs.Answers.{endOf, endNumber, endName, reverseAnswer, reverseOut}
 use Rattle.reverse.proofs.lookup.Reads as reverse
 use Rattle.collapse.specs.Fold.{foldOf}
-use Rattle.collapse.specs.Collapse as folds
-use Rattle.collapse.specs.Collapse.{collapseAnswer, collapseOut}
+use Rattle.collapse.specs.Collapse.{numberOf, collapseAnswer, collapseOut}
 use Rattle.collapse.proofs.collapse.Reads as collapse
-use Rattle.a6plan.specs.Exports.{partAnswer, valueSize, valueOctets, valueIn, exportedReadNumber, exportedValue, exportedWriteNumber, exportedWriteOut, exportedNumber, exportedFigures, exportedOut}
-use Rattle.a6plan.proofs.ExportLaws.{out-refused, figures-refused, read-misfit, read-fit, write-fit, out-misfit, out-figures, out-fit}
+use Rattle.a6plan.specs.Exports.{partAnswer, valueOctets, valueIn, exportedReadNumber, exportedWriteNumber, exportedNumber, exportedFigures}
 use Rattle.a6plan.proofs.a6plan_standard.Reads as a6plan-standard
 use Rattle.a6plan.proofs.a6plan_read.Reads as a6plan-read
 use Rattle.a6plan.proofs.a6plan_write.Reads as a6plan-write
@@ -77,8 +75,7 @@ use Rattle.a6plan.proofs.a6plan_owner.Reads as a6plan-owner
 use Rattle.a6plan.proofs.a6plan_lookup.Reads as a6plan-lookup
 use Rattle.a6plan.proofs.a6plan_reverse.Reads as a6plan-reverse
 use Rattle.a6plan.proofs.a6plan_collapse.Reads as a6plan-collapse
-use Rattle.demands.specs.Demand1.{Promises, Cleared, ClearedLent, ClearedExport}
-use Rattle.demands.proofs.Filled.{standard-filled, lookup-filled, reverse-filled, collapse-filled}
+use Rattle.demands.specs.Demand1.{Promises, Cleared}
 
 -- the contract, computed, is the claim itself
 plainly : {P : Type 0} → Unit {0} × (P ↔ P)
@@ -91,12 +88,28 @@ octets-refused κs number r = plainly
 pub octets-clear : (κs : Lfts 1) (out end : RefT (List ℕ)) → Promises (clear.Asked κs) (clear.Learnt κs) (out, tt) tt (end, tt) (now end ≡ blank (length (now out)))
 octets-clear κs out end = plainly
 
+pub octets-equal : (κs : Lfts 2) (a b : RefT (List ℕ)) (r : Bool) → Promises (equal.Asked κs) (equal.Learnt κs) (a, (b, tt)) r (a, (b, tt)) (r ≡ same (now a) (now b))
+octets-equal κs a b r = plainly
+
 pub octets-wide : (κs : Lfts 0) (x r : ℕ) → Promises (wide.Asked κs) (wide.Learnt κs) (x, tt) r (x, tt) ((r ≡ x) × (r < 256))
 octets-wide κs x r = plainly
 
 pub octets-is-blank : (κs : Lfts 1) (s : RefT (List ℕ)) (from : ℕ) (r : Bool)
     → Promises (is-blank.Asked κs) (is-blank.Learnt κs) (s, (from, tt)) r (s, (from, tt)) (r ≡ isBlank (drop from (now s)))
 octets-is-blank κs s from r = plainly
+
+pub octets-quarter-octets : (κs : Lfts 0) (v : ℕ) (r : List ℕ) → Promises (quarter-octets.Asked κs) (quarter-octets.Learnt κs) (v, tt) r (v, tt) (r ≡ octetsOf 4 v)
+octets-quarter-octets κs v r = plainly
+
+pub octets-numbers-clear : (κs : Lfts 1) (list end : RefT (List ℕ))
+    → Promises (numbers-clear.Asked κs) (numbers-clear.Learnt κs) (list, tt) tt (end, tt) (now end ≡ blank (length (now list)))
+octets-numbers-clear κs list end = plainly
+
+pub octets-lesser : (κs : Lfts 0) (a b r : ℕ) → Promises (lesser.Asked κs) (lesser.Learnt κs) (a, (b, tt)) r (a, (b, tt)) (r ≡ min a b)
+octets-lesser κs a b r = plainly
+
+pub octets-numbers-wide : (κs : Lfts 0) (x r : ℕ) → Promises (numbers-wide.Asked κs) (numbers-wide.Learnt κs) (x, tt) r (x, tt) (r ≡ x)
+octets-numbers-wide κs x r = plainly
 
 -- ---- address
 pub address-join : (κs : Lfts 0) (high low : List ℕ) (at : ℕ) (r : List ℕ)
@@ -119,11 +132,6 @@ pub names-standard-form : (κs : Lfts 2) (name out end : RefT (List ℕ)) (r : A
     → Promises (standard-form.Asked κs) (standard-form.Learnt κs) (name, (out, tt)) r (name, (end, tt))
     ((r ≡ standardAnswer (now name) (length (now out))) × (now end ≡ standardOut (now name) (length (now out))))
 names-standard-form κs name out end r = plainly
-
-pub names-equal : (κs : Lfts 2) (a b : RefT (List ℕ)) (r : Bool)
-    → Promises (equal.Asked κs) (equal.Learnt κs) (a, (b, tt)) r (a, (b, tt))
-    ((r ≡ same (now a) (now b)) × (inStandardForm (now a) ≡ true → inStandardForm (now b) ≡ true → r ≡ sameName (now a) (now b)))
-names-equal κs a b r = plainly
 
 pub names-is-standard : (κs : Lfts 1) (name : RefT (List ℕ)) (r : Bool)
     → Promises (is-standard.Asked κs) (is-standard.Learnt κs) (name, tt) r (name, tt) (r ≡ inStandardForm (now name))
@@ -149,10 +157,6 @@ pub plan-owner : (κs : Lfts 1) (table r : RefT (List ℕ)) (index : ℕ)
     → Promises (owner.Asked κs) (owner.Learnt κs) (table, (index, tt)) r (table, (index, tt)) (IsPart table r (ownerPart (now table) index))
 plan-owner κs table r index = plainly
 
-pub plan-owner-part : (κs : Lfts 1) (table : RefT (List ℕ)) (index : ℕ) (r : Part)
-    → Promises (owner-part.Asked κs) (owner-part.Learnt κs) (table, (index, tt)) r (table, (index, tt)) (r ≡ ownerPart (now table) index)
-plan-owner-part κs table index r = plainly
-
 -- ---- forward, reverse and collapse
 pub forward-lookup : (κs : Lfts 4) (table name out end ttls left : RefT (List ℕ)) (limit : ℕ) (r : Answer)
     → Promises (lookup.Asked κs) (lookup.Learnt κs) (table, (name, (limit, (out, (ttls, tt))))) r (table, (name, (limit, (end, (left, tt)))))
@@ -174,19 +178,19 @@ collapse-collapse κs table name out end r = plainly
 -- ---- the eight exports: the number, the output and the figures
 pub export-standard : (κs : Lfts 3) (name out end figures figured : RefT (List ℕ)) (r : ℕ)
     → Promises (a6plan-standard.Asked κs) (a6plan-standard.Learnt κs) (name, (out, (figures, tt))) r (name, (end, (figured, tt)))
-    ((r ≡ exportedNumber (length (now figures)) (standardAnswer (now name) (length (now out)) .number))
-    × ((now end ≡ exportedOut r (standardOut (now name) (length (now out)))) × (now figured ≡ exportedFigures r (standardAnswer (now name) (length (now out))) (length (now figures)))))
+    ((r ≡ exportedNumber (length (now figures)) (standardNumber (now name) (length (now out))))
+    × ((now end ≡ outBy r (standardOf (now name)) (length (now out))) × (now figured ≡ exportedFigures r (standardAnswer (now name) (length (now out))) (length (now figures)))))
 export-standard κs name out end figures figured r = plainly
 
 pub export-read : (κs : Lfts 2) (rdata value end : RefT (List ℕ)) (r : ℕ)
     → Promises (a6plan-read.Asked κs) (a6plan-read.Learnt κs) (rdata, (value, tt)) r (rdata, (end, tt))
-    ((r ≡ exportedReadNumber (length (now value)) (readOf (now rdata))) × (now end ≡ exportedValue (length (now value)) (readOf (now rdata))))
+    ((r ≡ exportedReadNumber (length (now value)) (readNumber (now rdata))) × (now end ≡ outBy r (valueOctets (valueOf (now rdata))) (length (now value))))
 export-read κs rdata value end r = plainly
 
 pub export-write : (κs : Lfts 3) (value out end figures figured : RefT (List ℕ)) (r : ℕ)
     → Promises (a6plan-write.Asked κs) (a6plan-write.Learnt κs) (value, (out, (figures, tt))) r (value, (end, (figured, tt)))
-    ((r ≡ exportedWriteNumber (length (now value)) (length (now figures)) (writeAnswer (valueIn (now value)) (length (now out))))
-    × ((now end ≡ exportedWriteOut (length (now value)) (length (now figures)) (writeOut (valueIn (now value)) (length (now out))) (length (now out)))
+    ((r ≡ exportedWriteNumber (length (now value)) (length (now figures)) (writeNumber (valueIn (now value)) (length (now out))))
+    × ((now end ≡ outBy r (dataOf (valueIn (now value))) (length (now out)))
     × (now figured ≡ exportedFigures r (writeAnswer (valueIn (now value)) (length (now out))) (length (now figures)))))
 export-write κs value out end figures figured r = plainly
 
@@ -200,91 +204,78 @@ export-owner κs table index figures figured r = plainly
 
 pub export-lookup : (κs : Lfts 5) (table name : RefT (List ℕ)) (limit : ℕ) (out end ttls left figures figured : RefT (List ℕ)) (r : ℕ)
     → Promises (a6plan-lookup.Asked κs) (a6plan-lookup.Learnt κs) (table, (name, (limit, (out, (ttls, (figures, tt)))))) r (table, (name, (limit, (end, (left, (figured, tt))))))
-    ((r ≡ exportedNumber (length (now figures)) (lookupAnswer (now table) (now name) limit (length (now out)) (length (now ttls)) .number))
-    × ((now end ≡ exportedOut r (lookupOut (now table) (now name) limit (length (now out)) (length (now ttls))))
-    × ((now left ≡ exportedOut r (lookupTtls (now table) (now name) limit (length (now out)) (length (now ttls))))
+    ((r ≡ exportedNumber (length (now figures)) (lookupNumber (now table) (now name) limit (length (now out)) (length (now ttls))))
+    × ((now end ≡ outputOf (graphOf (now table)) (now name) r (length (now out)))
+    × ((now left ≡ livesOf (graphOf (now table)) (now name) r (length (now ttls)))
     × (now figured ≡ exportedFigures r (lookupAnswer (now table) (now name) limit (length (now out)) (length (now ttls))) (length (now figures))))))
 export-lookup κs table name limit out end ttls left figures figured r = plainly
 
 pub export-reverse : (κs : Lfts 4) (table address : RefT (List ℕ)) (limit : ℕ) (out end figures figured : RefT (List ℕ)) (r : ℕ)
     → Promises (a6plan-reverse.Asked κs) (a6plan-reverse.Learnt κs) (table, (address, (limit, (out, (figures, tt))))) r (table, (address, (limit, (end, (figured, tt)))))
-    ((r ≡ exportedNumber (length (now figures)) (reverseAnswer (now table) (now address) limit (length (now out)) .number))
-    × ((now end ≡ exportedOut r (reverseOut (now table) (now address) limit (length (now out))))
+    ((r ≡ exportedNumber (length (now figures)) (endNumber (endOf (now table) (now address) limit (length (now out)))))
+    × ((now end ≡ outBy r (endName (endOf (now table) (now address) limit (length (now out)))) (length (now out)))
     × (now figured ≡ exportedFigures r (reverseAnswer (now table) (now address) limit (length (now out))) (length (now figures)))))
 export-reverse κs table address limit out end figures figured r = plainly
 
 pub export-collapse : (κs : Lfts 4) (table name : RefT (List ℕ)) (out end figures figured : RefT (List ℕ)) (r : ℕ)
     → Promises (a6plan-collapse.Asked κs) (a6plan-collapse.Learnt κs) (table, (name, (out, (figures, tt)))) r (table, (name, (end, (figured, tt))))
-    ((r ≡ exportedNumber (length (now figures)) (collapseAnswer (now table) (now name) (length (now out)) .number))
-    × ((now end ≡ exportedOut r (collapseOut (now table) (now name) (length (now out))))
+    ((r ≡ exportedNumber (length (now figures)) (numberOf (now table) (now name) (length (now out))))
+    × ((now end ≡ outBy r (flat (foldOf (now name) (now table))) (length (now out)))
     × (now figured ≡ exportedFigures r (collapseAnswer (now table) (now name) (length (now out))) (length (now figures)))))
 export-collapse κs table name out end figures figured r = plainly
 
 -- ---- what refuses leaves nothing
-pub standard-clears : (name : List ℕ) (room : ℕ) → Cleared (standardAnswer name room) (standardOut name room) room
-unfolding standardAnswer standardOut standards.answerFor standards.outFor
-standard-clears name room = go (standardNumber name room)
-  where
-    go : (k : ℕ) → Cleared (standards.answerFor k name) (standards.outFor k name room) room
-    go zero h = absurd (h refl)
-    go (suc k) h = (refl, refl, refl)
+-- by the number, of any operation: where it is not 0 both figures are 0 and the output is zero
+by-number-clears : (k count work : ℕ) (result : List ℕ) (room : ℕ) → Cleared (answerBy k count work) (outBy k result room) room
+unfolding answerBy outBy
+by-number-clears zero count work result room h = absurd (h refl)
+by-number-clears (suc k) count work result room h = (refl, refl, refl)
 
+-- a refused standard form has both figures 0 and its output zero
+pub standard-clears : (name : List ℕ) (room : ℕ) → Cleared (standardAnswer name room) (standardOut name room) room
+standard-clears name room = by-number-clears _ _ _ _ room
+
+-- a refused scan has used nothing
 pub scan-clears : (xs : List ℕ) → (scanned (scanOf xs) .number ≡ 0 → ⊥) → (scanned (scanOf xs) .used ≡ 0) × (scanned (scanOf xs) .standard ≡ false)
-unfolding scanned finish
+unfolding scanned
 scan-clears xs = go (scanOf xs)
   where
     go : (r : scans.Reading) → (scanned r .number ≡ 0 → ⊥) → (scanned r .used ≡ 0) × (scanned r .standard ≡ false)
     go (scans.refused n) h = (refl, refl)
     go (scans.done ls used) h = absurd (h refl)
 
+-- a refused reading shows L = 0, zero octets and name length 0
 pub read-clears : (octets : List ℕ) → (readOf octets .number ≡ 0 → ⊥)
     → readOf octets .value ≡ record { prefix = 0; address = blank 16; name = record { octets = blank 255; length = 0 } }
-unfolding readOf readingFor refusedReading blankValue nameOf
+unfolding readingFor nameOf
 read-clears octets = go (readNumber octets)
   where
     go : (k : ℕ) → (readingFor k octets .number ≡ 0 → ⊥) → readingFor k octets .value ≡ blankValue
     go zero h = absurd (h refl)
     go (suc k) h = refl
 
+-- a refused writing has both figures 0 and its output zero
 pub write-clears : (v : Value) (room : ℕ) → Cleared (writeAnswer v room) (writeOut v room) room
-unfolding writeAnswer writeOut writes.answerFor writes.outFor
-write-clears v room = go (writeNumber v room)
-  where
-    go : (k : ℕ) → Cleared (writes.answerFor k v) (writes.outFor k v room) room
-    go zero h = absurd (h refl)
-    go (suc k) h = (refl, refl, refl)
+write-clears v room = by-number-clears _ _ _ _ room
 
--- both lists
+-- a refused lookup has both figures 0, its output zero and its list of TTLs zero
 pub lookup-clears : (t name : List ℕ) (limit size room : ℕ)
     → Cleared (lookupAnswer t name limit size room) (lookupOut t name limit size room) size × Cleared (lookupAnswer t name limit size room) (lookupTtls t name limit size room) room
-unfolding lookupAnswer lookupOut lookupTtls answerOf outputOf livesOf
-lookup-clears t name limit size room = go (lookupNumber t name limit size room)
-  where
-    go : (k : ℕ) → Cleared (answerOf (graphOf t) name k) (outputOf (graphOf t) name k size) size × Cleared (answerOf (graphOf t) name k) (livesOf (graphOf t) name k room) room
-    go zero = (λ h. absurd (h refl), λ h. absurd (h refl))
-    go (suc k) = (λ h. (refl, refl, refl), λ h. (refl, refl, refl))
+lookup-clears t name limit size room = (by-number-clears _ _ _ _ size, by-number-clears _ _ _ _ room)
 
+-- a refused reverse lookup has both figures 0 and its output zero
 pub reverse-clears : (t address : List ℕ) (limit room : ℕ) → Cleared (reverseAnswer t address limit room) (reverseOut t address limit room) room
-unfolding reverseAnswer reverseOut replies.answerFor replies.outFor
-reverse-clears t address limit room = go (endOf t address limit room)
-  where
-    go : (x : walks.End) → Cleared (replies.answerFor x) (replies.outFor x room) room
-    go (walks.refused n) h = (refl, refl, refl)
-    go (walks.ended last n) h = absurd (h refl)
+reverse-clears t address limit room = by-number-clears _ _ _ _ room
 
+-- a refused collapse has both figures 0 and its output zero
 pub collapse-clears : (t x : List ℕ) (size : ℕ) → Cleared (collapseAnswer t x size) (collapseOut t x size) size
-unfolding collapseAnswer collapseOut folds.answerFor folds.outFor
-collapse-clears t x size = go (folds.numberOf t x size)
-  where
-    go : (k : ℕ) → Cleared (folds.answerFor k (foldOf x t)) (folds.outFor k (foldOf x t) size) size
-    go zero h = absurd (h refl)
-    go (suc k) h = (refl, refl, refl)
+collapse-clears t x size = by-number-clears _ _ _ _ size
 
--- the check has no figures; the owner of a table out of order, or past its last record, is the empty part
+-- the check has no figures
 pub check-clears : (t : List ℕ) → (checkAnswer t .count ≡ 0) × (checkAnswer t .work ≡ 0)
-unfolding checkAnswer
 check-clears t = (refl, refl)
 
+-- the owner of a table out of order, or past its last record, is the empty part
 pub owner-clears : (t : List ℕ) (i : ℕ) → (InOrder t × (i < countOf t) → ⊥) → ownerPart t i ≡ record { offset = 0; length = 0 }
 owner-clears t i h = go (eqb (checkOf t) 0) refl (ltb i (countOf t)) refl
   where
@@ -293,52 +284,46 @@ owner-clears t i h = go (eqb (checkOf t) 0) refl (ltb i (countOf t)) refl
     go true e false f = part-past t i (eqb-true (checkOf t) 0 e) (ltb-false i (countOf t) f)
     go true e true f = absurd (h (eqb-true (checkOf t) 0 e, ltb-true i (countOf t) f))
 
--- ---- and so at the C interface, also where the figures are not two
-exported-clears : (a : Answer) (out : List ℕ) (size n : ℕ) → length out ≡ size → ClearedExport a out size n
-exported-clears a out size n l h = let k = exportedNumber n (a .number) in (out-refused k out h ∙ ap blank l, figures-refused k a n h)
+-- ---- and so at the C interface: whatever is lent is zero where the number is not 0, also where the figures are not two
+zeros : (r : ℕ) (result : List ℕ) (room : ℕ) {end : List ℕ} → (r ≡ 0 → ⊥) → end ≡ outBy r result room → end ≡ blank room
+zeros r result room h e = e ∙ sym (refused-out r r refl h result room)
 
-pub export-standard-clears : (name : List ℕ) (room n : ℕ) → Small name → ClearedExport (standardAnswer name room) (standardOut name room) room n
-export-standard-clears name room n s = exported-clears (standardAnswer name room) (standardOut name room) room n (standard-filled name room s)
+-- of `a6plan_standard`
+pub export-standard-clears : (κs : Lfts 3) (name out end figures figured : RefT (List ℕ)) (r : ℕ)
+    → a6plan-standard.Learnt κs (name, (out, (figures, tt))) r (name, (end, (figured, tt))) → (r ≡ 0 → ⊥)
+    → (now end ≡ blank (length (now out))) × (now figured ≡ blank (length (now figures)))
+export-standard-clears κs name out end figures figured r l h = (zeros r _ _ h (l .1 .0), zeros r _ _ h (l .1 .1))
 
-pub export-lookup-clears : (t name : List ℕ) (limit size room n : ℕ) → Small t
-    → ClearedExport (lookupAnswer t name limit size room) (lookupOut t name limit size room) size n × ClearedExport (lookupAnswer t name limit size room) (lookupTtls t name limit size room) room n
-export-lookup-clears t name limit size room n s =
-    let f = lookup-filled t name limit size room s in (
-      exported-clears (lookupAnswer t name limit size room) (lookupOut t name limit size room) size n (f .0),
-      exported-clears (lookupAnswer t name limit size room) (lookupTtls t name limit size room) room n (f .1),
-    )
+-- of `a6plan_read`
+pub export-read-clears : (κs : Lfts 2) (rdata value end : RefT (List ℕ)) (r : ℕ)
+    → a6plan-read.Learnt κs (rdata, (value, tt)) r (rdata, (end, tt)) → (r ≡ 0 → ⊥) → now end ≡ blank (length (now value))
+export-read-clears κs rdata value end r l h = zeros r _ _ h (l .1)
 
-pub export-reverse-clears : (t address : List ℕ) (limit room n : ℕ) → Small address → ClearedExport (reverseAnswer t address limit room) (reverseOut t address limit room) room n
-export-reverse-clears t address limit room n s =
-    exported-clears (reverseAnswer t address limit room) (reverseOut t address limit room) room n (reverse-filled t address limit room s)
+-- of `a6plan_write`
+pub export-write-clears : (κs : Lfts 3) (value out end figures figured : RefT (List ℕ)) (r : ℕ)
+    → a6plan-write.Learnt κs (value, (out, (figures, tt))) r (value, (end, (figured, tt))) → (r ≡ 0 → ⊥)
+    → (now end ≡ blank (length (now out))) × (now figured ≡ blank (length (now figures)))
+export-write-clears κs value out end figures figured r l h = (zeros r _ _ h (l .1 .0), zeros r _ _ h (l .1 .1))
 
-pub export-collapse-clears : (t x : List ℕ) (size n : ℕ) → ClearedExport (collapseAnswer t x size) (collapseOut t x size) size n
-export-collapse-clears t x size n = exported-clears (collapseAnswer t x size) (collapseOut t x size) size n (collapse-filled t x size)
+-- of `a6plan_owner`
+pub export-owner-clears : (κs : Lfts 2) (table : RefT (List ℕ)) (index : ℕ) (figures figured : RefT (List ℕ)) (r : ℕ)
+    → a6plan-owner.Learnt κs (table, (index, (figures, tt))) r (table, (index, (figured, tt))) → (r ≡ 0 → ⊥) → now figured ≡ blank (length (now figures))
+export-owner-clears κs table index figures figured r l h = zeros r _ _ h (l .1)
 
-pub export-owner-clears : (t : List ℕ) (i n : ℕ) → (exportedNumber n 0 ≡ 0 → ⊥) → exportedFigures (exportedNumber n 0) (partAnswer (ownerPart t i)) n ≡ blank n
-export-owner-clears t i n h = figures-refused (exportedNumber n 0) (partAnswer (ownerPart t i)) n h
+-- of `a6plan_lookup`, both lists
+pub export-lookup-clears : (κs : Lfts 5) (table name : RefT (List ℕ)) (limit : ℕ) (out end ttls left figures figured : RefT (List ℕ)) (r : ℕ)
+    → a6plan-lookup.Learnt κs (table, (name, (limit, (out, (ttls, (figures, tt)))))) r (table, (name, (limit, (end, (left, (figured, tt)))))) → (r ≡ 0 → ⊥)
+    → (now end ≡ blank (length (now out))) × (now left ≡ blank (length (now ttls))) × (now figured ≡ blank (length (now figures)))
+export-lookup-clears κs table name limit out end ttls left figures figured r l h = (zeros r _ _ h (l .1 .0), zeros r _ _ h (l .1 .1 .0), zeros r _ _ h (l .1 .1 .1))
 
-pub export-read-clears : (octets : List ℕ) (n : ℕ) → (exportedReadNumber n (readOf octets) ≡ 0 → ⊥) → exportedValue n (readOf octets) ≡ blank n
-unfolding valueOctets blank
-export-read-clears octets n h = go (eqb n valueSize) refl
-  where
-    go : (b : Bool) → eqb n valueSize ≡ b → exportedValue n (readOf octets) ≡ blank n
-    go false e = read-misfit n (readOf octets) (eqb-false n valueSize e) .1
-    go true e =
-        let z = eqb-true n valueSize e in
-        let f = read-fit n (readOf octets) z in
-        let v = read-clears octets (λ k. h (f .0 ∙ k)) in
-        f .1 ∙ ap valueOctets v ∙ ap blank (sym z)
+-- of `a6plan_reverse`
+pub export-reverse-clears : (κs : Lfts 4) (table address : RefT (List ℕ)) (limit : ℕ) (out end figures figured : RefT (List ℕ)) (r : ℕ)
+    → a6plan-reverse.Learnt κs (table, (address, (limit, (out, (figures, tt))))) r (table, (address, (limit, (end, (figured, tt))))) → (r ≡ 0 → ⊥)
+    → (now end ≡ blank (length (now out))) × (now figured ≡ blank (length (now figures)))
+export-reverse-clears κs table address limit out end figures figured r l h = (zeros r _ _ h (l .1 .0), zeros r _ _ h (l .1 .1))
 
-pub export-write-clears : (v : Value) (m room n : ℕ)
-    → ClearedLent (exportedWriteNumber m n (writeAnswer v room)) (exportedWriteOut m n (writeOut v room) room) room
-    (exportedFigures (exportedWriteNumber m n (writeAnswer v room)) (writeAnswer v room) n) n
-export-write-clears v m room n h = (go (eqb m valueSize) refl (eqb n 2) refl, figures-refused (exportedWriteNumber m n (writeAnswer v room)) (writeAnswer v room) n h)
-  where
-    go : (a : Bool) → eqb m valueSize ≡ a → (b : Bool) → eqb n 2 ≡ b → exportedWriteOut m n (writeOut v room) room ≡ blank room
-    go false e b f = out-misfit m n (writeOut v room) room (eqb-false m valueSize e)
-    go true e false f = out-figures m n (writeOut v room) room (eqb-true m valueSize e) (eqb-false n 2 f)
-    go true e true f =
-        let p = eqb-true m valueSize e in
-        let q = eqb-true n 2 f in
-        out-fit m n (writeOut v room) room p q ∙ write-clears v room (λ k. h (write-fit m n (writeAnswer v room) p q ∙ k)) .2
+-- of `a6plan_collapse`
+pub export-collapse-clears : (κs : Lfts 4) (table name : RefT (List ℕ)) (out end figures figured : RefT (List ℕ)) (r : ℕ)
+    → a6plan-collapse.Learnt κs (table, (name, (out, (figures, tt)))) r (table, (name, (end, (figured, tt)))) → (r ≡ 0 → ⊥)
+    → (now end ≡ blank (length (now out))) × (now figured ≡ blank (length (now figures)))
+export-collapse-clears κs table name out end figures figured r l h = (zeros r _ _ h (l .1 .0), zeros r _ _ h (l .1 .1))

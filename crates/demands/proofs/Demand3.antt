@@ -1,4 +1,4 @@
--- Demand 3: no list of collapses changes the addresses of any name, and each call is refused or gives 01's table. Assumes nothing.
+-- Demand 3: no list of collapses changes the addresses of any name, and each call is refused or gives 01's table.
 use Prim.Native.Nat.{ℕ}
 use mathlib.Core.Path.{_≡_}
 use mathlib.Core.List.{List}
@@ -11,6 +11,7 @@ use Rattle.collapse.proofs.collapse.Reads as collapse
 use Rattle.collapse.proofs.Contract.{learnt}
 use Rattle.collapse.proofs.Demanded.{demand3}
 
+-- any list of collapses keeps the addresses of every name, and each call is refused or gives the rule's table
 pub kept : Demand3
 kept = demand3
 

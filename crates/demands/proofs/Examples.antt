@@ -1,4 +1,4 @@
--- 01's starred examples (Examples to check) and two of lifetimes (T-01), one table and one statement about it, by computation. Assumes nothing.
+-- 01's starred examples (Examples to check) and two of lifetimes (T-01), one table and one statement about it, by computation.
 use Prim.Native.Nat.{ℕ, _*_, _/_, _%_}
 use mathlib.Core.Path.{_≡_, refl}
 use mathlib.Core.List.{List, [], _∷_, _++_, map}
@@ -13,11 +13,14 @@ use Rattle.chains.specs.Listing.{free, extend, paths, chainsFrom, chainsOf, wor
 use Rattle.chains.specs.Addresses.{insert, gather, addressesOf}
 use Rattle.chains.specs.Lifetimes.{leastTtl, lifetimeIn, lifetimeOf}
 use Rattle.a6.specs.Read.{readOf}
+use Rattle.a6.proofs.Computing.{data-compute}
 use Rattle.a6.specs.Write.{writeAnswer, writeOut}
 use Rattle.a6.specs.declared.Value.{Value}
 use Rattle.plan.specs.Layout.{recordSize, addressSize, slotSize, a6, slotOf, recordOf}
 use Rattle.plan.specs.Graph.{ownsA6}
-use Rattle.forward.specs.Lookup.{lookupAnswer, lookupOut, lookupTtls}
+use Rattle.forward.specs.Lookup.{lookupNumber, lookupAnswer, lookupOut, lookupTtls}
+use Rattle.search.specs.Answers.{numberOf}
+use Rattle.collapse.proofs.Computing.{collapses-compute}
 use Rattle.collapse.specs.Collapse.{collapseAnswer, collapseOut}
 use Rattle.a6plan.specs.Exports.{valueSize, valueOctets}
 
@@ -194,6 +197,7 @@ cases =
     ∷ lasting (lookup back ha 10 2) 0 (1 ∷ 3 ∷ []) (ip 0x2001 0xdb8 0 5 0 0 0 7 ++ blank addressSize) (300 ∷ 0 ∷ [])
     ∷ []
 
+-- of each case the definitions give just what is expected
 pub all : map given cases ≡ map expected cases
-unfolding given expected cases lookupAnswer lookupOut lookupTtls lifetimeOf lifetimeIn leastTtl same collapseAnswer collapseOut readOf writeAnswer writeOut flat ownsA6 chainsOf chainsFrom paths extend free workOf addressesOf gather insert orderOf lastLength spelt speltBit bitAt
+unfolding given expected cases data-compute collapses-compute lookupNumber numberOf ownsA6 chainsOf chainsFrom paths extend free workOf addressesOf gather insert orderOf lastLength spelt speltBit bitAt lifetimeOf lifetimeIn leastTtl same flat
 all = refl

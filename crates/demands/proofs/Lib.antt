@@ -1,5 +1,6 @@
-pub mod Filled
 pub mod Demand1
+pub mod Owned
 pub mod Demand2
 pub mod Demand3
 pub mod Examples
+pub mod Filled

@@ -1,11 +1,10 @@
--- The words of demand 1 (01, What comes back): a contract that asks nothing and says just one thing, and a refusal that leaves nothing. Assumes nothing.
+-- The words of demand 1 (01, What comes back): a contract that asks nothing and says just one thing, and a refusal that leaves nothing.
 use Prim.Native.Nat.{ℕ}
 use mathlib.Core.Path.{_≡_}
 use mathlib.Core.List.{List}
 use mathlib.Core.Logic.{_↔_}
 use Rattle.octets.specs.Octets.{blank}
 use Rattle.octets.specs.declared.Answer.{Answer}
-use Rattle.a6plan.specs.Exports.{exportedNumber, exportedFigures, exportedOut}
 
 -- a function's contract, at arguments a, a result r and arguments x as the call leaves them: nothing is asked of the caller, and what it learns is
 -- the claim, no less and no more
@@ -15,14 +14,3 @@ Promises asked learnt a r x claim = asked a × (learnt a r x ↔ claim)
 -- an answer whose number is not 0 has both figures 0, and the output, or another list, of `size` places is all zero
 abbrev pub Cleared : Answer → List ℕ → ℕ → Type 0
 Cleared a out size = (a .number ≡ 0 → ⊥) → (a .count ≡ 0) × (a .work ≡ 0) × (out ≡ blank size)
-
--- the same of all that is lent at the C interface, where the figures have n places
-abbrev pub ClearedLent : ℕ → List ℕ → ℕ → List ℕ → ℕ → Type 0
-ClearedLent number out size figures n = (number ≡ 0 → ⊥) → (out ≡ blank size) × (figures ≡ blank n)
-
--- and of what an operation's answer and output become there
-abbrev pub ClearedExport : Answer → List ℕ → ℕ → ℕ → Type 0
-ClearedExport a out size n = ClearedLent k (exportedOut k out) size (exportedFigures k a n) n
-  where
-    k : ℕ
-    k = exportedNumber n (a .number)

@@ -84,7 +84,7 @@ fn tell(verb: usize, line: &[u8], table: &[u8], kept: &mut [u8], size: usize)
         return octets::inside::copy(table, 0, table.len(), kept, 0);
     }
     if verb == text::COMPARE {
-        return print::compared(names::equal(table, kept));
+        return print::compared(octets::equal(table, kept));
     }
     ask(verb, line, &table[0..size]);
 }

@@ -65,7 +65,7 @@ fn place(words: &[u8], x: &[u8]) -> usize
 {
     let mut k: usize = 0;
     while k < 16 {
-        if names::equal(word(words, k), x) {
+        if octets::equal(word(words, k), x) {
             return k;
         }
         k += 1;

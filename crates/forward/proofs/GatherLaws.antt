@@ -1,4 +1,4 @@
--- Laws of the arrays that a search reads: one turn of each loop that fills them. Assumes nothing.
+-- Laws of the arrays that a search reads: one turn of each loop that fills them.
 use Prim.Native.Nat.{ℕ, _+_, _*_, _<_}
 use mathlib.Core.Path.{_≡_, _∙_}
 use mathlib.Core.List.{List}
@@ -10,7 +10,8 @@ use native.Mathlib.Decide.{decLt}
 use Rattle.octets.specs.Octets.{Small}
 use Rattle.octets.specs.Numbers.{valueOf}
 use Rattle.chains.specs.Lists.{pick}
-use Rattle.plan.specs.Layout.{a6, typeAt, isA6, recordAt, addressAt}
+use Rattle.plan.specs.Layout.{a6, isA6, recordAt, addressAt}
+use Rattle.plan.specs.Records.{typeAt}
 use Rattle.plan.proofs.LayoutLaws.{record-small}
 use Rattle.plan.proofs.RecordLaws.{address-small}
 use Rattle.numbering.specs.Numbers.{filled}

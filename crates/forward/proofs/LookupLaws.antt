@@ -1,5 +1,5 @@
--- Lookup by names is the search by numbers: the arrays that the search reads are the table's records, renamed. Assumes nothing.
-use Prim.Native.Nat.{ℕ, zero, suc, _/_, _%_, _≤_, _<_}
+-- Lookup by names is the search by numbers: the arrays that the search reads are the table's records, renamed.
+use Prim.Native.Nat.{ℕ, _/_, _%_, _≤_, _<_}
 use mathlib.Core.Path.{_≡_, refl, ap, _∙_, sym}
 use mathlib.Core.Bool.{Bool, true, false, _&&_}
 use mathlib.Core.List.{List}
@@ -7,9 +7,10 @@ use lib.Dec.{eqb}
 use lib.ListN.{length, getD, take}
 use lib.Seq.{length-take-le, getD-take}
 use native.Mathlib.Omega.{arith}
-use borrow.Author.Tests.{ne-eqb, eq-eqb}
-use Rattle.octets.specs.Octets.{blank, Small}
-use Rattle.octets.specs.Answers.{refusal}
+use borrow.Author.Tests.{ne-eqb, eq-eqb, eqb-true}
+use Rattle.octets.specs.Octets.{Small}
+use Rattle.octets.proofs.AnswerLaws.{else-kept, else-later}
+use Rattle.octets.proofs.BoolLaws.{clash}
 use Rattle.labels.specs.Scan.{wellFormed}
 use Rattle.names.specs.Standard.{standardOf}
 use Rattle.chains.specs.Lists.{pick}
@@ -21,7 +22,8 @@ use Rattle.chains.specs.Renaming.{Alike, Renamed}
 use Rattle.chains.proofs.RenamingLaws.{renaming}
 use Rattle.chains.proofs.LifetimeLaws.{lifetime-renamed}
 use Rattle.plan.specs.Layout.{isA6, countOf, recordAt, prefixAt, addressAt, ttlAt}
-use Rattle.plan.specs.Check.{checkOf, InOrder}
+use Rattle.plan.specs.Check.{entryNumber, InOrder}
+use Rattle.plan.proofs.EntryLaws.{entry-zero}
 use Rattle.plan.proofs.OrderLaws.{order-count, order-good}
 use Rattle.plan.proofs.FaultLaws.{targetless-on}
 use Rattle.numbering.specs.Numbers.{numberIn, namesOf, ownNumber, targetNumber}
@@ -37,7 +39,7 @@ use Rattle.search.proofs.HeadLaws.{target-back, length-back, ttl-back}
 use Rattle.search.specs.Search as search′
 use Rattle.search.specs.Links.{maxNames, Numbered}
 use Rattle.search.specs.Answers.{numberOf, answerOf, outputOf, livesOf}
-use Rattle.forward.specs.Lookup.{lookupNumber, lookupAnswer, lookupOut, lookupTtls}
+use Rattle.forward.specs.Lookup.{misfit, lookupNumber, lookupAnswer, lookupOut, lookupTtls}
 
 -- the answer looks at the work and the addresses alone, and the lifetimes besides
 module _ {N M : Type 0} (g : Graph N) (h : Graph M) (x : N) (y : M) (w : workOf g x ≡ workOf h y) (a : addressesOf g x ≡ addressesOf h y) where
@@ -46,19 +48,13 @@ module _ {N M : Type 0} (g : Graph N) (h : Graph M) (x : N) (y : M) (w : workOf 
   number-like limit room = rw (w, a)
 
   pub answer-like : (k : ℕ) → answerOf g x k ≡ answerOf h y k
-  unfolding answerOf
-  answer-like zero = rw (w, a)
-  answer-like (suc k) = refl
+  answer-like k = rw (w, a)
 
   pub output-like : (k size : ℕ) → outputOf g x k size ≡ outputOf h y k size
-  unfolding outputOf
-  output-like zero size = rw a
-  output-like (suc k) size = refl
+  output-like k size = rw a
 
   pub lives-like : ((v : List ℕ) → lifetimeOf g x v ≡ lifetimeOf h y v) → (k room : ℕ) → livesOf g x k room ≡ livesOf h y k room
-  unfolding livesOf
-  lives-like l zero room = let f : lifetimeOf g x ≡ lifetimeOf h y = λ i v. l v i in rw (f, a)
-  lives-like l (suc k) room = refl
+  lives-like l k room = let f : lifetimeOf g x ≡ lifetimeOf h y = λ i v. l v i in rw (f, a)
 
 -- what the arrays hold once they are filled
 pub record Filled (t owners fields : List ℕ) : Type 0 where
@@ -164,55 +160,51 @@ module _ (t x : List ℕ) (s : Small x) (w : wellFormed x ≡ true) where
 
 -- each number in turn
 module _ (t name : List ℕ) (limit size room : ℕ) where
-  pub lookup-table : (checkOf t ≡ 0 → ⊥) → lookupNumber t name limit size room ≡ checkOf t
+  pub lookup-entry : (entryNumber t name ≡ 0 → ⊥) → lookupNumber t name limit size room ≡ entryNumber t name
   unfolding lookupNumber
-  lookup-table h = rw (ne-eqb (checkOf t) 0 h)
+  lookup-entry h = else-kept (entryNumber t name) _ h
 
-  module _ (o : checkOf t ≡ 0) where
-    pub lookup-name : wellFormed name ≡ false → lookupNumber t name limit size room ≡ 4
+  module _ (o : entryNumber t name ≡ 0) where
+    pub lookup-misfit : misfit size room ≡ true → lookupNumber t name limit size room ≡ 5
     unfolding lookupNumber
-    lookup-name w = rw (eq-eqb (checkOf t) 0 o, w)
+    lookup-misfit m = else-later (entryNumber t name) _ o ∙ rw m
 
-    module _ (w : wellFormed name ≡ true) where
-      pub lookup-size : (size % 16 ≡ 0 → ⊥) → lookupNumber t name limit size room ≡ 5
-      unfolding lookupNumber
-      lookup-size h = rw (eq-eqb (checkOf t) 0 o, w, ne-eqb (size % 16) 0 h)
-
-      pub lookup-room : size % 16 ≡ 0 → (room ≡ size / 16 → ⊥) → lookupNumber t name limit size room ≡ 5
-      unfolding lookupNumber
-      lookup-room h n = rw (eq-eqb (checkOf t) 0 o, w, eq-eqb (size % 16) 0 h, ne-eqb room (size / 16) n)
-
-      pub lookup-on : size % 16 ≡ 0 → room ≡ size / 16 → lookupNumber t name limit size room ≡ numberOf (graphOf t) name limit (size / 16)
-      unfolding lookupNumber
-      lookup-on h n = rw (eq-eqb (checkOf t) 0 o, w, eq-eqb (size % 16) 0 h, eq-eqb room (size / 16) n)
-
-  pub lookup-refused : (k : ℕ) → lookupNumber t name limit size room ≡ suc k → (refusal (suc k) ≡ lookupAnswer t name limit size room) × (blank size ≡ lookupOut t name limit size room) × (blank room ≡ lookupTtls t name limit size room)
-  unfolding lookupAnswer lookupOut lookupTtls answerOf outputOf livesOf
-  lookup-refused k e = (rw e, rw e, rw e)
-
-  pub lookup-refusing : (k : ℕ) → (k ≡ 0 → ⊥) → lookupNumber t name limit size room ≡ k → (refusal k ≡ lookupAnswer t name limit size room) × (blank size ≡ lookupOut t name limit size room) × (blank room ≡ lookupTtls t name limit size room)
-  lookup-refusing zero h e = absurd (h refl)
-  lookup-refusing (suc k) h e = lookup-refused k e
+    pub lookup-on : misfit size room ≡ false → lookupNumber t name limit size room ≡ numberOf (graphOf t) name limit (size / 16)
+    unfolding lookupNumber
+    lookup-on m = else-later (entryNumber t name) _ o ∙ rw m
 
   -- the search of the standard form answers for the name
-  module _ (o : checkOf t ≡ 0) (s : Small name) (w : wellFormed name ≡ true) (h : size % 16 ≡ 0) (n : room ≡ size / 16) where
-    number : ℕ
+  module _ (o : entryNumber t name ≡ 0) (s : Small name) (m : misfit size room ≡ false) (n : room ≡ size / 16) where
+    abbrev number : ℕ
     number = numberOf (graphOf t) (standardOf name) limit (size / 16)
 
+    formed : wellFormed name ≡ true
+    formed = entry-zero t name o .1
+
     number-is : number ≡ lookupNumber t name limit size room
-    unfolding number
-    number-is = number-like (graphOf t) (graphOf t) (standardOf name) name (work-standard t name s w) (addresses-standard t name s w) limit (size / 16) ∙ sym (lookup-on o w h n)
+    number-is = number-like (graphOf t) (graphOf t) (standardOf name) name (work-standard t name s formed) (addresses-standard t name s formed) limit (size / 16) ∙ sym (lookup-on o m)
 
-    pub lookup-answered : answerOf (graphOf t) (standardOf name) (numberOf (graphOf t) (standardOf name) limit (size / 16)) ≡ lookupAnswer t name limit size room
-    unfolding lookupAnswer number
-    lookup-answered = answer-like (graphOf t) (graphOf t) (standardOf name) name (work-standard t name s w) (addresses-standard t name s w) number ∙ ap (answerOf (graphOf t) name) number-is
+    pub lookup-answered : answerOf (graphOf t) (standardOf name) number ≡ lookupAnswer t name limit size room
+    lookup-answered = answer-like (graphOf t) (graphOf t) (standardOf name) name (work-standard t name s formed) (addresses-standard t name s formed) number ∙ ap (answerOf (graphOf t) name) number-is
 
-    pub lookup-written : outputOf (graphOf t) (standardOf name) (numberOf (graphOf t) (standardOf name) limit (size / 16)) size ≡ lookupOut t name limit size room
-    unfolding lookupOut number
-    lookup-written = output-like (graphOf t) (graphOf t) (standardOf name) name (work-standard t name s w) (addresses-standard t name s w) number size ∙ ap (λ (k : ℕ). outputOf (graphOf t) name k size) number-is
+    pub lookup-written : outputOf (graphOf t) (standardOf name) number size ≡ lookupOut t name limit size room
+    lookup-written =
+        output-like (graphOf t) (graphOf t) (standardOf name) name (work-standard t name s formed) (addresses-standard t name s formed) number size
+        ∙ ap (λ (k : ℕ). outputOf (graphOf t) name k size) number-is
 
-    pub lookup-lasting : livesOf (graphOf t) (standardOf name) (numberOf (graphOf t) (standardOf name) limit (size / 16)) (size / 16) ≡ lookupTtls t name limit size room
-    unfolding lookupTtls number
+    pub lookup-lasting : livesOf (graphOf t) (standardOf name) number (size / 16) ≡ lookupTtls t name limit size room
     lookup-lasting =
-        lives-like (graphOf t) (graphOf t) (standardOf name) name (work-standard t name s w) (addresses-standard t name s w) (lifetime-standard t name s w) number (size / 16)
+        lives-like (graphOf t) (graphOf t) (standardOf name) name (work-standard t name s formed) (addresses-standard t name s formed) (lifetime-standard t name s formed) number (size / 16)
         ∙ λ i. livesOf (graphOf t) name (number-is i) (sym n i)
+
+-- an output and a list that fit
+pub misfit-not : (size room : ℕ) → misfit size room ≡ false → (size % 16 ≡ 0) × (room ≡ size / 16)
+misfit-not size room h = go (eqb (size % 16) 0) (eqb room (size / 16)) refl refl
+  where
+    go : (a b : Bool) → eqb (size % 16) 0 ≡ a → eqb room (size / 16) ≡ b → (size % 16 ≡ 0) × (room ≡ size / 16)
+    go true true e f = (eqb-true (size % 16) 0 e, eqb-true room (size / 16) f)
+    go true false e f = absurd (clash refl (rw (e, f) at h))
+    go false b e f = absurd (clash refl (rw e at h))
+
+pub fitting : (size room : ℕ) → size % 16 ≡ 0 → room ≡ size / 16 → misfit size room ≡ false
+fitting size room h n = rw (eq-eqb (size % 16) 0 h, eq-eqb room (size / 16) n)

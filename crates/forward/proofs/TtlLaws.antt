@@ -1,4 +1,4 @@
--- Tables that differ in TTLs alone have the same chains, and so the same numbers, figures and addresses. Assumes nothing.
+-- Tables that differ in TTLs alone have the same chains, and so the same numbers, figures and addresses.
 use Prim.Native.Nat.{ℕ, _/_}
 use mathlib.Core.Path.{_≡_, ap, _∙_}
 use mathlib.Core.Bool.{_&&_}
@@ -10,7 +10,7 @@ use Rattle.chains.specs.Addresses.{addressesOf}
 use Rattle.chains.specs.Renaming.{Alike, Renamed}
 use Rattle.chains.proofs.RenamingLaws.{work-renamed, addresses-renamed}
 use Rattle.plan.specs.Layout.{a6, nameIn, isA6, recordAt, targetAt}
-use Rattle.plan.specs.Check.{InOrder}
+use Rattle.plan.specs.Check.{InOrder, entryNumber}
 use Rattle.plan.specs.Graph.{ownsA6, graphOf}
 use Rattle.plan.proofs.RecordLaws.{type-front, prefix-front, address-front, owner-front, target-front}
 use Rattle.forward.specs.Lookup.{lookupNumber, lookupAnswer, lookupOut}
@@ -46,14 +46,17 @@ module _ (t u : List ℕ) (apart : ApartInTtls t u) where
 
   -- the theorem: where both are in order, lookup gives the same number, figures and addresses
   module _ (o : InOrder t) (p : InOrder u) (name : List ℕ) (limit size room : ℕ) where
+    -- Theorem: tables in order that differ in TTLs alone give the same number
     pub number-apart : lookupNumber t name limit size room ≡ lookupNumber u name limit size room
-    unfolding lookupNumber
+    unfolding lookupNumber entryNumber
     number-apart = rw (o, p, number-like (graphOf t) (graphOf u) name name (work-apart name) (addresses-apart name) limit (size / 16))
 
+    -- Theorem: they give the same figures
     pub answer-apart : lookupAnswer t name limit size room ≡ lookupAnswer u name limit size room
     unfolding lookupAnswer
     answer-apart = rw number-apart (answer-like (graphOf t) (graphOf u) name name (work-apart name) (addresses-apart name) (lookupNumber u name limit size room))
 
+    -- Theorem: they give the same addresses
     pub out-apart : lookupOut t name limit size room ≡ lookupOut u name limit size room
     unfolding lookupOut
     out-apart = rw number-apart (output-like (graphOf t) (graphOf u) name name (work-apart name) (addresses-apart name) (lookupNumber u name limit size room) size)

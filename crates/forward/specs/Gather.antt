@@ -1,4 +1,4 @@
--- The records of a table in arrays, as the search reads them: the code's own, nothing that a reader must believe. Assumes nothing.
+-- The records of a table in arrays, as the search reads them: the code's own, nothing that a reader must believe.
 use Prim.Native.Nat.{ℕ, _<_}
 use mathlib.Core.Path.{_≡_}
 use mathlib.Core.List.{List}

@@ -50,8 +50,8 @@ pub fn set_fields(table: &[u8], targets: &[u16], fields: &mut [u64; FIELDS])
         let ttl = plan::inside::ttl(table, i);
         let address = plan::inside::address(table, i);
         fields[i] = search::inside::head_of(targets[i], prefix, ttl);
-        fields[HIGHS + i] = octets::numbers::half(&address, 0);
-        fields[LOWS + i] = octets::numbers::half(&address, 8);
+        fields[HIGHS + i] = octets::inside::half(&address, 0);
+        fields[LOWS + i] = octets::inside::half(&address, 8);
         i += 1;
     }
 }

@@ -8,12 +8,12 @@ ghost use Rattle.names.specs.Standard.{inStandardForm};
 ghost use Rattle.plan.specs.Check.{InOrder};
 ghost use Rattle.plan.specs.Graph.{graphOf};
 ghost use Rattle.search.specs.Answers.{numberOf, answerOf, outputOf, livesOf};
-ghost use Rattle.forward.specs.Lookup.{lookupAnswer, lookupOut, lookupTtls};
+ghost use Rattle.forward.specs.Lookup.{misfit, lookupAnswer, lookupOut, lookupTtls};
 
 // The addresses of a name in ascending order without repeats, sixteen octets each, then zeros; their count and the work. At the place of each,
 // in the other list, the least TTL of the records that it comes from, then zeros.
-// 1, 2 or 3 for the table, 4 for a malformed name, 5 for an output that is no multiple of 16 octets or a list of TTLs that has not one place
-// for each address, 6 for more work than the limit, 7 for more addresses than room.
+// 1, 2 or 3 for the table, 4 for a malformed name, 5 for an output that is no multiple of 16 octets or a list of TTLs of another length than
+// the room for addresses, 6 for more work than the limit, 7 for more addresses than room.
 pub fn lookup(
     table: &[u8],
     name: &[u8],
@@ -27,24 +27,28 @@ pub fn lookup(
 {
     octets::clear(out);
     octets::numbers::clear(ttls);
-    let checked = plan::check(table);
-    let number = checked.number;
+    let entered = plan::inside::enter(table, name);
+    let number = entered.number;
+    let held = entered.name;
+    let octets = held.octets;
+    let length = octets::wide(held.length);
     if number != 0 {
         return octets::refused(number);
     }
-    let held = names::hold(name);
-    let octets = held.octets;
-    let length = octets::wide(held.length);
-    if length == 0 {
-        return octets::refused(4);
-    }
-    if out.len() % 16 != 0 {
-        return octets::refused(5);
-    }
-    if ttls.len() != out.len() / 16 {
+    if is_misfit(out.len(), ttls.len()) {
         return octets::refused(5);
     }
     look(table, &octets[..length], limit, out, ttls)
+}
+
+// Whether an output of `size` octets is no whole number of addresses, or a list of `room` places has another length than it has room for.
+fn is_misfit(size: usize, room: usize) -> bool
+    ensures { λ r. ⌜ r ≡ misfit size room ⌝ }
+{
+    if size % 16 != 0 {
+        return true;
+    }
+    room != size / 16
 }
 
 // The same for a table in order, a name in standard form and lists of zeros: names become numbers, and the search runs over these.

@@ -1,4 +1,4 @@
--- Laws of one label: which test decides, and what holds where none does. Assumes nothing.
+-- Laws of one label: which test decides, and what holds where none does.
 use Prim.Native.Nat.{ℕ, zero, suc, _+_, _-_, _*_, _%_, _^_, _≤_, _<_}
 use mathlib.Core.Path.{_≡_, refl, ap, _∙_}
 use mathlib.Core.Bool.{true, false, not, _&&_}
@@ -11,7 +11,7 @@ use native.Mathlib.Nat.{add-zero}
 use borrow.Author.Tests.{lt-ltb, le-ltb, eq-eqb, ne-eqb, eqb-false, ltb-false, not-false}
 use Rattle.bits.specs.Bits.{octetsFor}
 use Rattle.labels.specs.Labels.{firstOf, isLabel, countFor, countOf, sizeOf, unusedClear, runOf, faultOf}
-use Rattle.octets.proofs.SmallLaws.{earns-zero}
+use Rattle.octets.proofs.AnswerLaws.{earns-zero}
 use Rattle.octets.proofs.BoolLaws.{and-false}
 use Rattle.labels.specs.Reads.{Sound}
 use Rattle.labels.specs.Steps.{broken, stepAt, stepFor, stepOf}
@@ -52,7 +52,7 @@ pub bits-unclear : (xs : List ℕ) → firstOf xs ≡ 65 → unusedClear xs ≡ 
 bits-unclear xs e h = rw (h, eq-eqb (firstOf xs) 65 e)
 
 pub count-least : (xs : List ℕ) → 0 < countOf xs
-unfolding countOf
+unfolding countOf countFor
 count-least xs = go (getD xs 1 0)
   where
     go : (c : ℕ) → 0 < countFor c
@@ -61,10 +61,6 @@ count-least xs = go (getD xs 1 0)
 
 -- each number in turn
 module _ (used run : ℕ) (xs : List ℕ) where
-  pub fault-missing : length xs ≡ 0 → faultOf used run xs ≡ 11
-  unfolding faultOf
-  fault-missing e = rw e
-
   pub fault-bad : 0 < length xs → isLabel (firstOf xs) ≡ false → faultOf used run xs ≡ 12
   unfolding faultOf
   fault-bad s k = rw (faultOf, ne-eqb (length xs) 0 (λ e. omega arith), k)

@@ -1,4 +1,4 @@
--- Laws of the scan: one for each thing that a turn can meet. Assumes nothing.
+-- Laws of the scan: one for each thing that a turn can meet.
 use Prim.Native.Nat.{ℕ, zero, suc, _+_, _-_, _<_}
 use mathlib.Core.Path.{_≡_, refl, ap, _∙_, sym}
 use mathlib.Core.Bool.{Bool, true, false}
@@ -12,8 +12,8 @@ use Rattle.bits.specs.Bits.{octetsFor, unpack}
 use Rattle.octets.proofs.BoolLaws.{and-true, and-false}
 use Rattle.labels.specs.Labels.{ordinary, bits, firstOf, countOf, sizeOf, runOf, labelOf, faultOf}
 use Rattle.labels.specs.Scan.{Reading, refused, done, with, scanFrom}
-use Rattle.labels.specs.Answers.{unread, found, finish}
-use Rattle.labels.specs.Steps.{stillApart}
+use Rattle.labels.specs.Answers.{unread, found, scanned}
+use Rattle.labels.specs.Steps.{finish, stillApart}
 use Rattle.labels.proofs.LabelLaws.{count-least, run-bits, size-ordinary}
 
 pub scan-skip : (used run k : ℕ) (xs : List ℕ) → scanFrom used run k xs ≡ scanFrom used run 0 (drop k xs)
@@ -60,6 +60,12 @@ scan-more used run [] h e f = let z : ⊥ = omega arith in absurd z
 scan-more used run (x ∷ xs) h e f =
     rw (scanFrom, e, ne-eqb x 0 f)
     (ap (with (labelOf (x ∷ xs))) (scan-skip _ _ (sizeOf (x ∷ xs) - 1) xs ∙ ap (scanFrom (used + sizeOf (x ∷ xs)) (runOf run (x ∷ xs)) 0) (size-drop x xs)))
+
+-- a scan begins with no label before it
+pub finish-all : (r : Reading) → finish true false r ≡ scanned r
+unfolding finish scanned
+finish-all (refused n) = refl
+finish-all (done ls used) = refl
 
 -- the answer's flag follows the runs
 pub finish-bits : (ok : Bool) (run next : ℕ) (b : List ℕ) (r : Reading) → 0 < next

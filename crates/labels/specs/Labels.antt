@@ -1,4 +1,4 @@
--- One label of a name in wire form (01, Names). Assumes nothing.
+-- One label of a name in wire form (01, Names).
 -- In each definition xs is what is left of the octets, from the label's first octet on.
 use Prim.Native.Nat.{ℕ, _+_, _-_, _*_, _%_, _^_}
 use mathlib.Core.Bool.{Bool, true, false, not, _&&_, _||_}
@@ -13,6 +13,7 @@ pub data Label : Type 0 where
   ordinary : List ℕ → Label
   bits : List ℕ → Label
 
+-- its first octet, which says of what kind it is
 abbrev pub firstOf : List ℕ → ℕ
 firstOf xs = getD xs 0 0
 
@@ -24,42 +25,34 @@ isLabel x = ltb x 64 || eqb x 65
 unfoldable pub countFor : ℕ → ℕ
 countFor c = elim (eqb c 0) [ true ↦ 256 | false ↦ c ]
 
+-- how many bits a bit label has: what its second octet stands for
 unfoldable pub countOf : List ℕ → ℕ
-unfolding countFor
 countOf xs = countFor (getD xs 1 0)
 
 -- the octets that the label takes, its first octet and its count octet among them
 unfoldable pub sizeOf : List ℕ → ℕ
-unfolding countOf
 sizeOf xs = elim (eqb (firstOf xs) 65) [ true ↦ 2 + octetsFor (countOf xs) | false ↦ 1 + firstOf xs ]
 
 -- the bits of the last octet that the count leaves unused are zero
 unfoldable pub unusedClear : List ℕ → Bool
-unfolding countOf
 unusedClear xs = eqb (getD xs (1 + octetsFor (countOf xs)) 0 % 2 ^ (octetsFor (countOf xs) * 8 - countOf xs)) 0
 
 -- how many bits the run of bit labels has that the label ends, after `run` bits of it; none after an ordinary label
 unfoldable pub runOf : ℕ → List ℕ → ℕ
-unfolding countOf
 runOf run xs = elim (eqb (firstOf xs) 65) [ true ↦ run + countOf xs | false ↦ 0 ]
 
+-- the label itself: as many octets as its first octet says, or as many bits as its count octet stands for
 unfoldable pub labelOf : List ℕ → Label
-unfolding countOf unpack
-labelOf xs = elim (eqb (firstOf xs) 65) [
-  | true ↦ bits (unpack (countOf xs) (drop 2 xs))
-  | false ↦ ordinary (take (firstOf xs) (drop 1 xs))
-]
+labelOf xs = elim (eqb (firstOf xs) 65) [ true ↦ bits (unpack (countOf xs) (drop 2 xs)) | false ↦ ordinary (take (firstOf xs) (drop 1 xs)) ]
 
 -- 01, What comes back, the reader's order at each label, after `used` octets of the name and `run` bits of a run:
 -- no octet is left; a first octet that begins no label; a label that sticks out; more than 255 octets so far; unused bits set; a run over 256 bits.
 -- A bit label without its count octet sticks out, since at least one octet of bits is due after it.
 unfoldable pub faultOf : ℕ → ℕ → List ℕ → ℕ
-unfolding sizeOf unusedClear runOf
 faultOf used run xs =
     earns (eqb (length xs) 0) 11
     (earns (not (isLabel (firstOf xs))) 12
     (earns (ltb (length xs) (sizeOf xs)) 11
     (earns (ltb 255 (used + sizeOf xs)) 12
     (earns (eqb (firstOf xs) 65 && not (unusedClear xs)) 12
-    (earns (ltb 256 (runOf run xs)) 12
-    0)))))
+    (earns (ltb 256 (runOf run xs)) 12 0)))))

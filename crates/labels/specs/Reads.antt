@@ -1,4 +1,4 @@
--- A scan that ends well, label by label, for the contracts of the helpers that merge: the code's own, nothing that a reader must believe. Assumes nothing.
+-- A scan that ends well, label by label, for the contracts of the helpers that merge: the code's own, nothing that a reader must believe.
 use Prim.Native.Nat.{ℕ, _+_, _≤_, _<_}
 use mathlib.Core.Path.{_≡_}
 use mathlib.Core.Bool.{true, false, not, _&&_}

@@ -1,4 +1,4 @@
--- A name read from left to right (01, Names, and the reader's order in What comes back). Assumes nothing.
+-- A name read from left to right (01, Names, and the reader's order in What comes back).
 use Prim.Native.Nat.{ℕ, zero, suc, _+_, _-_}
 use mathlib.Core.Bool.{Bool, true, false}
 use mathlib.Core.List.{List, [], _∷_}
@@ -18,24 +18,21 @@ with l (done ls used) = done (l ∷ ls) used
 
 -- the reading of what is left, after `used` octets and `run` bits of a run; `skip` octets of the label just read are passed over first
 unfoldable pub scanFrom : ℕ → ℕ → ℕ → List ℕ → Reading
-unfolding faultOf sizeOf runOf labelOf with
 scanFrom used run skip [] = refused 11
 scanFrom used run (suc skip) (x ∷ xs) = scanFrom used run skip xs
-scanFrom used run zero (x ∷ xs) =
-    elim (faultOf used run (x ∷ xs)) [
-      | suc n ↦ refused (suc n)
-      | zero ↦ elim (eqb x 0) [
-        | true ↦ done [] (used + 1)
-        | false ↦ with (labelOf (x ∷ xs))
-            (scanFrom (used + sizeOf (x ∷ xs)) (runOf run (x ∷ xs)) (sizeOf (x ∷ xs) - 1) xs)
-      ]
-    ]
+scanFrom used run zero (x ∷ xs) = elim (faultOf used run (x ∷ xs)) [
+  | suc n ↦ refused (suc n)
+  | zero ↦ elim (eqb x 0) [
+    | true ↦ done [] (used + 1)
+    | false ↦ with (labelOf (x ∷ xs)) (scanFrom (used + sizeOf (x ∷ xs)) (runOf run (x ∷ xs)) (sizeOf (x ∷ xs) - 1) xs)
+  ]
+]
 
 -- the name at the front of octets; more octets may follow it
 unfoldable pub scanOf : List ℕ → Reading
-unfolding scanFrom
 scanOf xs = scanFrom 0 0 0 xs
 
+-- the labels of a reading; none where it is refused
 unfoldable pub labelsOf : Reading → List Label
 labelsOf (refused n) = []
 labelsOf (done ls used) = ls
@@ -47,7 +44,6 @@ fills n (done ls used) = eqb used n
 
 -- a name that is given by itself, or in a slot, is well formed when it fills its octets exactly
 unfoldable pub wellFormed : List ℕ → Bool
-unfolding scanOf fills
 wellFormed xs = fills (length xs) (scanOf xs)
 
 -- no two bit labels are adjacent; `after` says that a bit label came just before

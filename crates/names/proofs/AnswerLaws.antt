@@ -1,26 +1,27 @@
--- Laws of what standard_form answers. Assumes nothing.
-use Prim.Native.Nat.{ℕ, suc, _-_}
+-- Laws of what standard_form answers.
+use Prim.Native.Nat.{ℕ, _-_}
 use mathlib.Core.Path.{_≡_, refl, ap, _∙_, sym}
-use mathlib.Core.Bool.{true, false}
+use mathlib.Core.Bool.{true, false, not}
 use mathlib.Core.List.{List, [], _++_}
 use lib.ListN.{length, drop}
 use lib.Seq.{take-all, paste}
 use native.Mathlib.Omega.{arith}
 use native.Mathlib.Nat.{zero-add}
-use borrow.Author.Tests.{eq-eqb, ne-eqb}
+use lib.Dec.{eqb}
+use borrow.Author.Tests.{eq-eqb, ne-eqb, eqb-true, not-false}
 use Rattle.octets.specs.Octets.{blank, Small}
-use Rattle.labels.specs.Scan.{Reading, refused, done, scanOf, apart, labelsOf, fills, wellFormed}
+use Rattle.labels.specs.Scan.{Reading, refused, done, scanOf, apart, labelsOf, fills, wellFormed, scanFrom}
 use Rattle.names.specs.Standard.{standardOf}
-use Rattle.octets.specs.Answers.{answering, refusal}
 use Rattle.labels.specs.Answers.{scanned}
-use Rattle.names.specs.Answers.{standardNumber, standardAnswer, standardOut}
+use Rattle.names.specs.Answers.{standardNumber}
 use Rattle.octets.proofs.OctetLaws.{nil-of-length, drop-blank}
+use Rattle.octets.proofs.AnswerLaws.{earns-zero}
 use Rattle.names.proofs.WriteLaws.{standard-apart}
 
 -- what a scan says of a given name
 module _ (name : List ℕ) where
   pub form-number : (scanned (scanOf name) .number ≡ 0 → ⊥) → wellFormed name ≡ false
-  unfolding scanned wellFormed
+  unfolding scanned wellFormed fills
   form-number h = go (scanOf name) h
     where
       go : (r : Reading) → (scanned r .number ≡ 0 → ⊥) → fills (length name) r ≡ false
@@ -28,7 +29,7 @@ module _ (name : List ℕ) where
       go (done ls u) h = absurd (h refl)
 
   pub form-used : (scanned (scanOf name) .used ≡ length name → ⊥) → wellFormed name ≡ false
-  unfolding scanned wellFormed
+  unfolding scanned wellFormed fills
   form-used h = go (scanOf name) h
     where
       go : (r : Reading) → (scanned r .used ≡ length name → ⊥) → fills (length name) r ≡ false
@@ -36,7 +37,7 @@ module _ (name : List ℕ) where
       go (done ls u) h = ne-eqb u (length name) h
 
   pub form-good : scanned (scanOf name) .number ≡ 0 → scanned (scanOf name) .used ≡ length name → wellFormed name ≡ true
-  unfolding scanned wellFormed scanOf
+  unfolding scanned wellFormed scanOf scanFrom fills
   form-good h k = go (scanOf name) refl h k
     where
       go : (r : Reading) → scanOf name ≡ r → scanned r .number ≡ 0 → scanned r .used ≡ length name → fills (length name) r ≡ true
@@ -69,21 +70,13 @@ module _ (name : List ℕ) (room : ℕ) where
   unfolding standardNumber
   number-done h k = rw (standardNumber, h, eq-eqb room 255 k)
 
-  pub refused-answer : (j : ℕ) → standardNumber name room ≡ suc j → standardAnswer name room ≡ refusal (suc j)
-  unfolding standardAnswer
-  refused-answer j e = rw e
-
-  pub refused-out : (j : ℕ) → standardNumber name room ≡ suc j → standardOut name room ≡ blank room
-  unfolding standardOut
-  refused-out j e = rw e
-
-  pub done-answer : (n : ℕ) → standardNumber name room ≡ 0 → n ≡ length (standardOf name) → answering n 0 ≡ standardAnswer name room
-  unfolding standardAnswer
-  done-answer n e f = rw (e, f)
-
-  pub done-out : standardNumber name room ≡ 0 → standardOut name room ≡ standardOf name ++ blank (room - length (standardOf name))
-  unfolding standardOut
-  done-out e = rw e
+  -- 0 is earned by a well-formed name and an output of 255 octets alone
+  pub number-zero : standardNumber name room ≡ 0 → (wellFormed name ≡ true) × (room ≡ 255)
+  unfolding standardNumber
+  number-zero e =
+      let t1 = earns-zero (not (wellFormed name)) 3 _ e in
+      let t2 = earns-zero (not (eqb room 255)) 4 _ (t1 .1) in
+      (not-false (wellFormed name) (t1 .0), eqb-true room 255 (not-false (eqb room 255) (t2 .0)))
 
 -- a copy to the front of zeros
 copied : (name out : List ℕ) (n room : ℕ) → n ≡ length name → out ≡ paste (blank room) 0 (drop 0 name) n → out ≡ name ++ blank (room - length name)

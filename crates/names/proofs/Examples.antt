@@ -1,4 +1,4 @@
--- Names read and put in standard form, by computation. Assumes nothing.
+-- Names read and put in standard form, by computation.
 use Prim.Native.Nat.{ℕ}
 use mathlib.Core.Path.{_≡_, refl}
 use mathlib.Core.Bool.{Bool, true, false}
@@ -8,6 +8,7 @@ use Rattle.labels.specs.declared.Scanned.{Scanned}
 use Rattle.labels.specs.Scan.{scanOf}
 use Rattle.labels.specs.Answers.{scanned}
 use Rattle.names.specs.Standard.{standardOf}
+use Rattle.names.proofs.Computing.{names-compute}
 
 -- RFC 2874: \[x0A0020FFFE812B32/64].\[x0009/16].\[x3FFE07C00040/48].IP6.ARPA
 ip6arpa : List ℕ
@@ -21,9 +22,9 @@ whole : List ℕ
 unfolding ip6arpa
 whole = 65 ∷ 128 ∷ 0x3F ∷ 0xFE ∷ 0x07 ∷ 0xC0 ∷ 0x00 ∷ 0x40 ∷ 0x00 ∷ 0x09 ∷ 0x0A ∷ 0x00 ∷ 0x20 ∷ 0xFF ∷ 0xFE ∷ 0x81 ∷ 0x2B ∷ 0x32 ∷ ip6arpa
 
--- 01, Errors we have met, the first: the bits of the right label come first
+-- Theorem: RFC 2874's name of 64, 16 and 48 bits: in its standard form the bits of the right label come first (01, Errors we have met, the first)
 rfc2874-standard : standardOf parts ≡ whole
-unfolding standardOf parts whole
+unfolding names-compute parts whole
 rfc2874-standard = refl
 
 record Case : Type 0 where
@@ -73,14 +74,13 @@ cases =
     ∷ []
 
 given : Case → Scanned
-unfolding scanned scanOf
 given c = scanned (scanOf (c .octets))
 
 expected : Case → Scanned
 expected c = record { number = c .number; used = c .used; standard = c .standard }
 
 scans : map given cases ≡ map expected cases
-unfolding given expected cases
+unfolding names-compute given expected cases
 scans = refl
 
 -- standard forms: 255 and 1 bits make 256, whose count octet is 0; a run stays apart from the next; bits that are no whole octets
@@ -90,5 +90,5 @@ standards = (65 ∷ 255 ∷ zeros 32 ++ (65 ∷ 1 ∷ 128 ∷ 0 ∷ [])) ∷ (65
 
 merges : map standardOf standards
     ≡ (65 ∷ 0 ∷ 128 ∷ zeros 31 ++ (0 ∷ [])) ∷ (65 ∷ 5 ∷ 104 ∷ 1 ∷ 97 ∷ 65 ∷ 1 ∷ 0 ∷ 0 ∷ []) ∷ (0 ∷ []) ∷ []
-unfolding standards zeros standardOf
+unfolding names-compute standards zeros
 merges = refl

@@ -1,4 +1,4 @@
--- A name with more octets after it. Assumes nothing.
+-- A name with more octets after it.
 use Prim.Native.Nat.{ℕ, _+_, _≤_}
 use mathlib.Core.Path.{_≡_, refl, ap, _∙_}
 use mathlib.Core.Bool.{true}

@@ -8,3 +8,4 @@ pub mod FrontLaws
 pub mod NameLaws
 pub mod MergeLaws
 pub mod Examples
+pub mod Computing

@@ -1,4 +1,4 @@
--- Laws of merging: where labels begin, what a run's bits are, and that each step keeps the standard form. Assumes nothing.
+-- Laws of merging: where labels begin, what a run's bits are, and that each step keeps the standard form.
 use Prim.Native.Nat.{ℕ, zero, suc, _+_, _-_, _%_, _≤_, _<_}
 use mathlib.Core.Path.{_≡_, refl, ap, _∙_, sym}
 use mathlib.Core.Bool.{Bool, true, false}
@@ -234,7 +234,7 @@ pub record AtOrdinary (name : List ℕ) (at n : ℕ) : Type 0 where
   pub encoded : encodeAt name at ≡ take n (drop at name) ++ encodeAt name (at + n)
 
 pub at-ordinary : (name : List ℕ) (at n : ℕ) → Begins name at → (getD name at 0 ≡ 0 → ⊥) → (getD name at 0 ≡ 65 → ⊥) → n ≡ getD name at 0 + 1 → AtOrdinary name at n
-unfolding encodeAt units encodeFrom
+unfolding encodeAt units encodeFrom bitLabel
 at-ordinary name at n b f g e =
     let xs = drop at name in
     let i : firstOf xs ≡ getD name at 0 = first-at name at in
@@ -300,7 +300,7 @@ merging-turn name old new at to r m v l = record { same = v .same ∙ m .same; c
 
 pub merging-end : (name out : List ℕ) (at to : ℕ) → Merging name out at to → getD name at 0 ≡ 0
     → (out ≡ standardOf name ++ blank (255 - length (standardOf name))) × (to + 1 ≡ length (standardOf name)) × (to + 1 ≤ 255)
-unfolding encodeAt encodeFrom units blank
+unfolding encodeAt encodeFrom units blank bitLabel
 merging-end name out at to m f =
     let e : labelsAt name at ≡ [] = labels-end (drop at name) (first-at name at ∙ f) in
     let s : standardOf name ≡ take to out ++ (0 ∷ []) = sym (m .same) ∙ ap (λ (ls : List Label). take to out ++ encodeFrom [] (units ls)) e in

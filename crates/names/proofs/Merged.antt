@@ -1,8 +1,8 @@
--- The labels of the standard form. Assumes nothing.
+-- The labels of the standard form.
 use Prim.Native.Nat.{ℕ, _≤_, _<_}
 use mathlib.Core.List.{List, [], _∷_, _++_}
 use lib.ListN.{length}
-use Rattle.bits.specs.Bits.{Bits}
+use Rattle.bits.specs.Packing.{Bits}
 use Rattle.labels.specs.Labels.{Label, ordinary, bits}
 
 -- a run as one label, before others

@@ -1,4 +1,4 @@
--- The round trip: a standard form scans to the same units, and is never longer. Assumes nothing.
+-- The round trip: a standard form scans to the same units, and is never longer.
 use Prim.Native.Nat.{ℕ, suc, _+_, _-_, _*_, _%_, _^_, _≤_, _<_}
 use mathlib.Core.Path.{_≡_, refl, ap, _∙_, sym}
 use mathlib.Core.Bool.{Bool, true, false}
@@ -8,11 +8,12 @@ use lib.ListN.{length, getD, take, drop, length-append, length-drop, List·getD-
 use lib.Seq.{length-take-le, take-append-seam, drop-append-seam}
 use native.Mathlib.Omega.{arith}
 use borrow.Author.Tests.{eq-eqb, eqb-true, eqb-false, ltb-true}
-use Rattle.bits.specs.Bits.{octetsFor, unpack, packFrom, pack, Bits}
+use Rattle.bits.specs.Bits.{octetsFor, unpack, packFrom, pack}
+use Rattle.bits.specs.Packing.{Bits}
 use Rattle.labels.specs.Labels.{Label, ordinary, bits, firstOf, countFor, countOf, sizeOf, runOf, labelOf, unusedClear, faultOf}
 use Rattle.labels.specs.Scan.{Reading, done, with, scanFrom, scanOf, apart, labelsOf, fills, wellFormed}
 use Rattle.labels.specs.Reads.{Reads, root, more}
-use Rattle.names.specs.Standard.{Unit, label, bit, before, units, unitsOf, bitLabel, encodeFrom, encode, standardOf, Same}
+use Rattle.names.specs.Standard.{Unit, label, bit, before, units, unitsOf, bitLabel, encodeFrom, encode, standardOf, keyOf, Same}
 use Rattle.names.proofs.Written.{writeLabel, written}
 use Rattle.names.proofs.Merged.{oneLabel, merged, Fit, AllFit}
 use Rattle.octets.specs.Octets.{Small}
@@ -74,7 +75,7 @@ one-label-units [] ls = refl
 one-label-units (b ∷ bs) ls = refl
 
 pub merged-units : (run : List ℕ) (ls : List Label) → units (merged run ls) ≡ before run (units ls)
-unfolding merged units
+unfolding merged units before
 merged-units run [] = one-label-units run []
 merged-units run (ordinary l ∷ ls) = one-label-units run (ordinary l ∷ merged [] ls) ∙ ap (λ (us : List Unit). before run (label l ∷ us)) (merged-units [] ls)
 merged-units run (bits b ∷ ls) = merged-units (b ++ run) ls ∙ before-append b run (units ls)
@@ -252,6 +253,7 @@ fit-labels (more {run = r} {xs = xs} {l = l} {ls = ls} o f e q) = go (eqb (first
         rw (e ∙ label-ordinary xs g) ((omega (arith, f), omega arith), ih)
 
 module _ (xs : List ℕ) (s : Small xs) (w : wellFormed xs ≡ true) where
+  -- Theorem: a standard form is never longer than the name
   pub standard-shorter : length (standardOf xs) ≤ length xs
   unfolding standardOf unitsOf encode bitLabel
   standard-shorter =
@@ -268,33 +270,43 @@ module _ (xs : List ℕ) (s : Small xs) (w : wellFormed xs ≡ true) where
       ap scanOf e ∙ scan-written false 0 0 ms (fit-merged r [] (λ i. omega arith) refl (omega arith)) (merged-apart [] (labelsOf (scanOf xs))) (λ q. refl)
       (omega (arith, standard-shorter, reads-end r .1)) ∙ ap (done ms) (omega arith)
 
+  -- Theorem: a standard form is well formed
   pub standard-formed : wellFormed (standardOf xs) ≡ true
   unfolding wellFormed fills
   standard-formed = rw standard-scan (eq-eqb (length (standardOf xs)) (length (standardOf xs)) refl)
 
-  -- scanning what was encoded gives the same units
+  -- Theorem: scanning a standard form gives the units of the name that it came from
   pub standard-units : unitsOf (standardOf xs) ≡ unitsOf xs
   unfolding unitsOf labelsOf before
   standard-units = ap (λ (r : Reading). units (labelsOf r)) standard-scan ∙ merged-units [] (labelsOf (scanOf xs))
 
-  -- a standard form is its own standard form
+  -- Theorem: a standard form is its own standard form
   pub standard-again : standardOf (standardOf xs) ≡ standardOf xs
   unfolding standardOf
   standard-again = ap encode standard-units
 
--- two names are the same exactly when their units are equal
+-- Theorem: well-formed names that are the same have equal units
 pub same-units : (m n : List ℕ) → Small m → Small n → wellFormed m ≡ true → wellFormed n ≡ true → Same m n → unitsOf m ≡ unitsOf n
+unfolding keyOf
 same-units m n s t u v h = sym (standard-units m s u) ∙ ap unitsOf h ∙ standard-units n t v
 
+-- Theorem: names with equal units are the same
 pub units-same : (m n : List ℕ) → unitsOf m ≡ unitsOf n → Same m n
-unfolding standardOf
+unfolding keyOf standardOf
 units-same m n h = ap encode h
 
+-- Theorem: the standard form of a name is the same name
+pub same-standard : (m : List ℕ) → Small m → wellFormed m ≡ true → Same (standardOf m) m
+same-standard m s w = units-same (standardOf m) m (standard-units m s w)
+
+-- Theorem: `Same` is reflexive
 pub same-reflexive : (m : List ℕ) → Same m m
 same-reflexive m = refl
 
+-- Theorem: `Same` is symmetric
 pub same-symmetric : (m n : List ℕ) → Same m n → Same n m
 same-symmetric m n h = sym h
 
+-- Theorem: `Same` is transitive
 pub same-transitive : (l m n : List ℕ) → Same l m → Same m n → Same l n
 same-transitive l m n h k = h ∙ k

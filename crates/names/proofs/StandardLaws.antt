@@ -1,4 +1,4 @@
--- When a name is in standard form, and what tells the same names. Assumes nothing.
+-- When a name is in standard form, and what tells the same names.
 use Prim.Native.Nat.{ℕ, _+_, _≤_, _<_}
 use mathlib.Core.Path.{_≡_, refl, ap, sym}
 use mathlib.Core.Bool.{Bool, true, false}
@@ -8,8 +8,8 @@ use native.Mathlib.Omega.{arith}
 use Rattle.octets.specs.Octets.{same, Small}
 use Rattle.labels.specs.Labels.{Label, ordinary, bits}
 use Rattle.labels.specs.Scan.{Reading, refused, done, scanOf, apart, labelsOf, fills, wellFormed}
-use Rattle.labels.specs.Answers.{scanned, finish}
-use Rattle.names.specs.Standard.{units, unitsOf, bitLabel, encodeFrom, encode, standardOf, Same, sameName, inStandardForm}
+use Rattle.labels.specs.Answers.{scanned}
+use Rattle.names.specs.Standard.{units, unitsOf, bitLabel, encodeFrom, encode, standardOf, keyOf, Same, sameName, inStandardForm}
 use Rattle.names.proofs.Written.{writeLabel, written}
 use Rattle.names.proofs.Merged.{AllFit}
 use Rattle.octets.proofs.SameLaws.{same-eq, same-refl}
@@ -53,7 +53,7 @@ merge-saves (y ∷ run) (bits b ∷ ls) f h =
     let c = bit-label-saves b (y ∷ run) (f .0 .0) (omega arith) in
     rw (encode-before b (y ∷ run) (units ls)) (omega arith)
 
--- a well-formed name is in standard form exactly when no two bit labels are adjacent
+-- Theorem: a well-formed name that is its own standard form has no two adjacent bit labels
 pub apart-standard : (xs : List ℕ) → Small xs → wellFormed xs ≡ true → standardOf xs ≡ xs → apart false (labelsOf (scanOf xs)) ≡ true
 unfolding standardOf unitsOf encode bitLabel begun
 apart-standard xs s w e = go (apart false (labelsOf (scanOf xs))) refl
@@ -88,9 +88,9 @@ pub malformed-not : (xs : List ℕ) → wellFormed xs ≡ false → inStandardFo
 unfolding inStandardForm
 malformed-not xs w = rw w
 
--- what a scan says of a name that fills its octets: the flag is set exactly when the name is in standard form
+-- Theorem: what a scan says of a name that fills its octets: the flag is set exactly when the name is in standard form
 pub scan-standard : (xs : List ℕ) → Small xs → wellFormed xs ≡ true → scanned (scanOf xs) .standard ≡ inStandardForm xs
-unfolding scanned finish labelsOf fills
+unfolding scanned labelsOf fills
 scan-standard xs s w = go (scanOf xs) refl
   where
     flag : (t : Bool) → apart false (labelsOf (scanOf xs)) ≡ t → t ≡ inStandardForm xs
@@ -105,16 +105,17 @@ scan-standard xs s w = go (scanOf xs) refl
     go (refused n) e = let z : false ≡ true = rw (e, fills) at (well-fills xs w) in let y : _≡_ {A = ℕ} 0 1 = cc in let x : ⊥ = omega arith in absurd x
     go (done ls u) e = rw e (flag (apart false ls) (ap (λ (r : Reading). apart false (labelsOf r)) e))
 
--- the test for the same name decides `Same`
+-- Theorem: where the test `sameName` holds, the names are the same
 pub same-name-same : (m n : List ℕ) → sameName m n ≡ true → Same m n
 unfolding sameName
-same-name-same m n h = same-eq (standardOf m) (standardOf n) h
+same-name-same m n h = same-eq (keyOf m) (keyOf n) h
 
+-- Theorem: where names are the same, the test `sameName` holds
 pub same-same-name : (m n : List ℕ) → Same m n → sameName m n ≡ true
 unfolding sameName
-same-same-name m n h = rw h (same-refl (standardOf n))
+same-same-name m n h = rw h (same-refl (keyOf n))
 
--- names in standard form are the same name exactly when they are the same octets
+-- Theorem: names in standard form are the same name exactly when they are the same octets
 pub same-octets : (m n : List ℕ) → inStandardForm m ≡ true → inStandardForm n ≡ true → same m n ≡ sameName m n
-unfolding sameName
+unfolding sameName keyOf
 same-octets m n p q = rw (in-standard m p .1, in-standard n q .1)

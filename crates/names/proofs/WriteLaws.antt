@@ -1,4 +1,4 @@
--- A scan read backwards: labels written out again are what was read. Assumes nothing.
+-- A scan read backwards: labels written out again are what was read.
 use Prim.Native.Nat.{ℕ, zero, suc, _+_, _-_, _*_, _%_, _^_, _≤_, _<_}
 use mathlib.Core.Path.{_≡_, refl, ap, _∙_, sym}
 use mathlib.Core.Bool.{Bool, true, false, _||_}
@@ -182,7 +182,7 @@ encode-apart false run (bits b ∷ ls) h k =
     rw (k refl) (encode-before b [] (units ls) ∙ ap (λ (ys : List ℕ). encodeFrom ys (units ls)) (append-nil b) ∙ encode-apart true b ls h (λ e. cc))
 
 pub encode-written : (ls : List Label) → apart false ls ≡ true → encode (units ls) ≡ written ls
-unfolding encode
+unfolding encode written bitLabel
 encode-written ls h = encode-apart false [] ls h (λ e. refl)
 
 -- the reading of a well-formed name
@@ -197,7 +197,7 @@ well-reads xs h = go (scanFrom 0 0 0 xs) refl
         let g : u ≡ length xs = eqb-true u (length xs) f in
         rw e (scan-reads (length xs) 0 0 xs ls (length xs) (omega arith) (e ∙ ap (done ls) g))
 
--- a well-formed name with no two adjacent bit labels is its own standard form
+-- Theorem: a well-formed name with no two adjacent bit labels is its own standard form
 pub standard-apart : (xs : List ℕ) → Small xs → wellFormed xs ≡ true → apart false (labelsOf (scanOf xs)) ≡ true → standardOf xs ≡ xs
 unfolding standardOf unitsOf
 standard-apart xs s w a =

@@ -1,4 +1,4 @@
--- Labels written out again, as they stand. Assumes nothing.
+-- Labels written out again, as they stand.
 use Prim.Native.Nat.{ℕ}
 use mathlib.Core.List.{List, [], _∷_, _++_}
 use lib.ListN.{length}

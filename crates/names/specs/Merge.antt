@@ -1,4 +1,4 @@
--- Runs of bit labels as the helpers merge them: the code's own, nothing that a reader must believe. Assumes nothing.
+-- Runs of bit labels as the helpers merge them: the code's own, nothing that a reader must believe.
 use Prim.Native.Nat.{ℕ, zero, suc, _+_, _-_, _*_, _%_, _^_, _≤_, _<_}
 use mathlib.Core.Path.{_≡_}
 use mathlib.Core.Bool.{true, false}

@@ -1,4 +1,4 @@
--- A name by value, as 01 (A6 data) holds it: 255 octets and a length, zeros after the name. Assumes nothing.
+-- A name by value, as 01 (A6 data) holds it: 255 octets and a length, zeros after the name.
 use Prim.Native.Nat.{ℕ, _-_}
 use mathlib.Core.Bool.{true, false}
 use mathlib.Core.List.{List, [], _++_}
@@ -10,10 +10,8 @@ use Rattle.names.specs.declared.Name.{Name}
 
 -- the value that holds the octets of a name; the value that holds none has length 0 and zeros alone
 unfoldable pub nameOf : List ℕ → Name
-unfolding blank
 nameOf n = record { octets = n ++ blank (255 - length n); length = length n }
 
 -- the value that holds the standard form of a well-formed name, and none for octets that are malformed
 unfoldable pub heldOf : List ℕ → Name
-unfolding nameOf wellFormed standardOf
 heldOf name = elim (wellFormed name) [ true ↦ nameOf (standardOf name) | false ↦ nameOf [] ]

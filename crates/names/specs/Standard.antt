@@ -1,4 +1,4 @@
--- Units, the standard form, and when two names are the same (01, Names). Assumes nothing.
+-- Units, the standard form, and when two names are the same (01, Names).
 use Prim.Native.Nat.{ℕ, _%_}
 use mathlib.Core.Path.{_≡_}
 use mathlib.Core.Bool.{Bool, _&&_}
@@ -21,48 +21,46 @@ before (b ∷ bs) us = before bs (bit b ∷ us)
 
 -- the units of labels, lowest first
 unfoldable pub units : List Label → List Unit
-unfolding before
 units [] = []
 units (ordinary l ∷ ls) = label l ∷ units ls
 units (bits b ∷ ls) = before b (units ls)
 
 -- the units of a name: what the name means
 unfoldable pub unitsOf : List ℕ → List Unit
-unfolding units scanOf labelsOf
 unitsOf xs = units (labelsOf (scanOf xs))
 
 -- a run of bits as one bit label, the bit nearest the root first; no label for no bits
 unfoldable pub bitLabel : List ℕ → List ℕ
-unfolding pack
 bitLabel [] = []
 bitLabel (b ∷ bs) = 65 ∷ length (b ∷ bs) % 256 ∷ pack (b ∷ bs)
 
 -- units written in wire form, one bit label for each run; `run` holds the bits of the run so far, the bit nearest the root first
 unfoldable pub encodeFrom : List ℕ → List Unit → List ℕ
-unfolding bitLabel
 encodeFrom run [] = bitLabel run ++ 0 ∷ []
 encodeFrom run (label l ∷ us) = bitLabel run ++ (length l ∷ (l ++ encodeFrom [] us))
 encodeFrom run (bit b ∷ us) = encodeFrom (b ∷ run) us
 
+-- all the units of a name in wire form
 unfoldable pub encode : List Unit → List ℕ
-unfolding encodeFrom
 encode us = encodeFrom [] us
 
--- the standard form of a name (01's term): its units written with one bit label for each run
+-- The standard form of a name (01's term): its units written with one bit label for each run. Octets that are no name have no labels and so no
+-- units, and read as the root does. What runs asks for a name first; a statement about any octets, as in demand 3, takes such octets for the root.
 unfoldable pub standardOf : List ℕ → List ℕ
-unfolding encode unitsOf
 standardOf xs = encode (unitsOf xs)
 
--- two names are the same: their standard forms are the same octets
+-- what tells names apart: the key of a name, octets that two names share exactly when they are the same
+unfoldable pub keyOf : List ℕ → List ℕ
+keyOf xs = standardOf xs
+
+-- two names are the same: their keys are the same octets (01, Names)
 abbrev pub Same : List ℕ → List ℕ → Type 0
-Same m n = standardOf m ≡ standardOf n
+Same m n = keyOf m ≡ keyOf n
 
 -- the same, as a test that computes
 unfoldable pub sameName : List ℕ → List ℕ → Bool
-unfolding standardOf same
-sameName m n = same (standardOf m) (standardOf n)
+sameName m n = same (keyOf m) (keyOf n)
 
 -- a well-formed name that is its own standard form
 unfoldable pub inStandardForm : List ℕ → Bool
-unfolding wellFormed standardOf same
 inStandardForm xs = wellFormed xs && same (standardOf xs) xs

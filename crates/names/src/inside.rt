@@ -1,4 +1,4 @@
-// What only our own layers call: the standard form of a name that was scanned.
+// What only our own layers call: the standard form of a name that was scanned, and names in standard form compared.
 ghost use mathlib.Core.Path.{_≡_};
 ghost use mathlib.Core.Bool.{true};
 ghost use mathlib.Core.List.{_++_};
@@ -6,7 +6,7 @@ ghost use Prim.Native.Nat.{_-_, _≤_};
 ghost use lib.ListN.{length};
 ghost use Rattle.octets.specs.Octets.{blank};
 ghost use Rattle.labels.specs.Scan.{scanOf, wellFormed};
-ghost use Rattle.names.specs.Standard.{standardOf};
+ghost use Rattle.names.specs.Standard.{standardOf, sameName, inStandardForm};
 ghost use Rattle.labels.specs.Answers.{scanned};
 
 // The standard form of a well-formed name over zeros, and its length; `standard` is what a scan says of the name.
@@ -20,4 +20,12 @@ pub fn put_standard(name: &[u8], standard: bool, out: &mut [u8]) -> usize
         return n;
     }
     crate::merge(name, out)
+}
+
+// Whether two names in standard form are the same name.
+pub fn equal(a: &[u8], b: &[u8]) -> bool
+    requires { ⌜ (inStandardForm (now a) ≡ true) × (inStandardForm (now b) ≡ true) ⌝ }
+    ensures { λ r. ⌜ r ≡ sameName (now (a .entry)) (now (b .entry)) ⌝ }
+{
+    octets::equal(a, b)
 }

@@ -4,11 +4,12 @@ ghost use mathlib.Core.Bool.{true};
 ghost use mathlib.Core.List.{_++_};
 ghost use Prim.Native.Nat.{_+_, _-_, _*_, _/_, _%_, _≤_, _<_};
 ghost use lib.ListN.{length, getD};
-ghost use Rattle.octets.specs.Octets.{same, blank};
-ghost use Rattle.labels.specs.Scan.{wellFormed};
-ghost use Rattle.names.specs.Standard.{standardOf, sameName, inStandardForm};
+ghost use Rattle.octets.specs.Octets.{blank};
+ghost use Rattle.labels.specs.Scan.{scanOf, wellFormed};
+ghost use Rattle.labels.specs.Answers.{scanned};
+ghost use Rattle.names.specs.Standard.{standardOf, inStandardForm};
 ghost use Rattle.names.specs.Name.{heldOf};
-ghost use Rattle.names.specs.Answers.{standardAnswer, standardOut};
+ghost use Rattle.names.specs.Answers.{standardNumber, standardAnswer, standardOut};
 ghost use Rattle.bits.specs.Packing.{Clean};
 ghost use Rattle.names.specs.Merge.{Begins, Moved, Ran};
 
@@ -24,54 +25,36 @@ pub fn standard_form(name: &[u8], out: &mut [u8]) -> octets::Answer
     ensures { λ _. ⌜ now (out .exit) ≡ standardOut (now (name .entry)) (length (now (out .entry))) ⌝ }
 {
     octets::clear(out);
-    let n = name.len();
     let t = labels::scan(name);
-    let number = t.number;
-    let used = t.used;
     let standard = t.standard;
+    let number = number_of(name, t, out.len());
     if number != 0 {
-        return octets::refused(4);
-    }
-    if used != n {
-        return octets::refused(4);
-    }
-    if out.len() != 255 {
-        return octets::refused(5);
-    }
-    if standard {
-        octets::inside::copy(name, 0, n, out, 0);
-        return octets::Answer {
-            number: 0,
-            count: n as u32,
-            work: 0,
-        };
+        return octets::refused(number);
     }
     // Lent on by `[..]` and not by its own name, the slice stays in registers.
-    let m = merge(&name[..], out);
+    let n = inside::put_standard(&name[..], standard, out);
     octets::Answer {
         number: 0,
-        count: m as u32,
+        count: n as u32,
         work: 0,
     }
 }
 
-// Whether two names in standard form are the same; of other octets, whether they are the same octets.
-pub fn equal(a: &[u8], b: &[u8]) -> bool
-    ensures octets { λ r. ⌜ r ≡ same (now (a .entry)) (now (b .entry)) ⌝ }
-    ensures names { λ r. ⌜ (inStandardForm (now (a .entry)) ≡ true → inStandardForm (now (b .entry)) ≡ true → r ≡ sameName (now (a .entry)) (now (b .entry))) ⌝ }
+// The number for a name, what a scan says of it, and an output of `room` octets.
+fn number_of(name: &[u8], t: labels::Scanned, room: usize) -> u8
+    requires { ⌜ t ≡ scanned (scanOf (now name)) ⌝ }
+    ensures { λ r. ⌜ r ≡ standardNumber (now (name .entry)) room ⌝ }
 {
-    let n = a.len();
-    if n != b.len() {
-        return false;
+    if t.number != 0 {
+        return 4;
     }
-    let mut i: usize = 0;
-    while i < n {
-        if a[i] != b[i] {
-            return false;
-        }
-        i += 1;
+    if t.used != name.len() {
+        return 4;
     }
-    true
+    if room != 255 {
+        return 5;
+    }
+    0
 }
 
 // Whether octets are a name in standard form, from end to end.

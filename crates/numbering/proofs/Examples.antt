@@ -1,14 +1,15 @@
--- A table numbered, by computation. Assumes nothing.
+-- A table numbered, by computation.
 use Prim.Native.Nat.{ℕ}
 use mathlib.Core.Path.{_≡_, refl}
 use mathlib.Core.List.{List, [], _∷_, map}
 use Rattle.octets.specs.Octets.{blank, flat}
-use Rattle.plan.specs.Layout.{addressSize, slotSize, a6, dname, prefixOf, targetSlot, ttlOf, slotOf, recordOf, countOf, recordAt}
+use Rattle.plan.specs.Layout.{addressSize, slotSize, a6, dname, slotOf, recordOf}
 use Rattle.plan.specs.Check.{checkOf}
 use Rattle.chains.specs.Lists.{upTo}
 use Rattle.chains.specs.Listing.{free, extend, paths, chainsFrom, chainsOf}
 use Rattle.numbering.specs.Numbers.{numberIn, namesOf, ownNumber, targetNumber}
-use Rattle.plan.specs.Graph.{graphOf, ownsA6}
+use Rattle.plan.specs.Graph.{graphOf}
+use Rattle.plan.proofs.Computing.{tables-compute}
 use Rattle.numbering.specs.Graph.{ownsNumbered, numbered}
 
 -- names: h.a, p.a, q.a, z.a, and a name of sixteen bits in one bit label and in two
@@ -46,35 +47,35 @@ plan = flat (
     ∷ recordOf a6 48 zeros (slotOf pa) (slotOf pa) 86400 ∷ recordOf a6 32 zeros (slotOf pa) (slotOf whole) 2147483647 ∷ [])
 
 in-order : checkOf plan ≡ 0
-unfolding checkOf plan
+unfolding tables-compute plan
 in-order = refl
 
 names : namesOf plan ≡ ha ∷ pa ∷ qa ∷ whole ∷ []
-unfolding namesOf plan ha pa qa whole
+unfolding tables-compute namesOf plan ha pa qa whole
 names = refl
 
 -- owners, targets, and names that are given
 numbers : map (ownNumber plan) (0 ∷ 1 ∷ 2 ∷ 3 ∷ 4 ∷ []) ≡ 0 ∷ 1 ∷ 2 ∷ 1 ∷ 1 ∷ []
-unfolding ownNumber plan
+unfolding tables-compute ownNumber plan
 numbers = refl
 
 targets : map (targetNumber plan) (0 ∷ 1 ∷ 2 ∷ 3 ∷ 4 ∷ []) ≡ 1 ∷ 65535 ∷ 0 ∷ 1 ∷ 3 ∷ []
-unfolding targetNumber plan
+unfolding tables-compute targetNumber plan
 targets = refl
 
 given : map (numberIn (namesOf plan)) (qa ∷ whole ∷ halves ∷ za ∷ []) ≡ 2 ∷ 3 ∷ 3 ∷ 4 ∷ []
-unfolding numberIn namesOf plan qa whole halves za
+unfolding tables-compute numberIn namesOf plan qa whole halves za
 given = refl
 
 -- the TTLs, in the graph over names and in the one over numbers
 ttls : map (graphOf plan .ttl) (0 ∷ 1 ∷ 2 ∷ 3 ∷ 4 ∷ []) ∷ map (numbered plan .ttl) (0 ∷ 1 ∷ 2 ∷ 3 ∷ 4 ∷ []) ∷ []
     ≡ (300 ∷ 0 ∷ 3600 ∷ 86400 ∷ 2147483647 ∷ []) ∷ (300 ∷ 0 ∷ 3600 ∷ 86400 ∷ 2147483647 ∷ []) ∷ []
-unfolding ttlOf recordAt plan
+unfolding tables-compute plan
 ttls = refl
 
 -- the chains of h.a, by name and by number; the DNAME is in none
 chains : chainsOf (graphOf plan) ha ∷ chainsOf (numbered plan) 0 ∷ []
     ≡ ((0 ∷ []) ∷ (0 ∷ 1 ∷ []) ∷ (0 ∷ 3 ∷ []) ∷ (0 ∷ 3 ∷ 1 ∷ []) ∷ (0 ∷ 3 ∷ 4 ∷ []) ∷ (0 ∷ 4 ∷ []) ∷ [])
     ∷ ((0 ∷ []) ∷ (0 ∷ 1 ∷ []) ∷ (0 ∷ 3 ∷ []) ∷ (0 ∷ 3 ∷ 1 ∷ []) ∷ (0 ∷ 3 ∷ 4 ∷ []) ∷ (0 ∷ 4 ∷ []) ∷ []) ∷ []
-unfolding chainsOf chainsFrom paths free extend upTo blank ownsA6 ownsNumbered targetNumber prefixOf countOf targetSlot plan ha
+unfolding tables-compute chainsOf chainsFrom paths free extend upTo ownsNumbered targetNumber plan ha
 chains = refl

@@ -1,4 +1,4 @@
--- The graph over numbers is the graph over names, renamed: names have one number exactly when they are the same. Assumes nothing.
+-- The graph over numbers is the graph over names, renamed: names have one number exactly when they are the same.
 use Prim.Native.Nat.{ℕ, _<_}
 use mathlib.Core.Path.{_≡_, refl, ap}
 use mathlib.Core.Logic.{_↔_}
@@ -42,7 +42,7 @@ renamed t =
     renamed-by (graphOf t) (numbered t) (numberIn (namesOf t)) refl (λ i h. refl) (λ i h. refl) (alike t)
     (λ i h z. target-some (namesOf t) t i (targetless-on (recordAt t i) (λ e. omega arith)) .1)
 
--- the theorem: a search may look for the number of a name in place of the name
+-- Theorem: a search may look for the number of a name in place of the name: chains, work and addresses are the same
 pub lookup-renamed : (t x : List ℕ) →
     (chainsOf (graphOf t) x ≡ chainsOf (numbered t) (numberIn (namesOf t) x))
     × (workOf (graphOf t) x ≡ workOf (numbered t) (numberIn (namesOf t) x))

@@ -1,4 +1,4 @@
--- Laws of names that are held by their places, and of the last number with a value. Assumes nothing.
+-- Laws of names that are held by their places, and of the last number with a value.
 use Prim.Native.Nat.{ℕ, zero, suc, _+_, _*_, _/_, _%_, _≤_, _<_}
 use mathlib.Core.Path.{_≡_, refl, ap, sym, _∙_}
 use mathlib.Core.Bool.{true, false}

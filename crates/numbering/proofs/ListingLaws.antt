@@ -1,4 +1,4 @@
--- Laws of the list of names in its buckets: what a search along a bucket finds, and how a name is added. Assumes nothing.
+-- Laws of the list of names in its buckets: what a search along a bucket finds, and how a name is added.
 use Prim.Native.Nat.{ℕ, _+_, _-_, _*_, _%_, _≤_, _<_}
 use mathlib.Core.Path.{_≡_, refl, ap, sym, subst, _∙_}
 use mathlib.Core.Bool.{Bool, true, false}
@@ -56,7 +56,7 @@ pub record Seeking (t places slot : List ℕ) (count next : ℕ) : Type 0 where
   pub here : (k : ℕ) → k + 1 ≡ next → bucketAt t places k ≡ bucketOf slot
   pub rest : (k : ℕ) → next ≤ k → k < count → sameName (nameAt t (getD places k 0)) (nameIn slot) ≡ false
 
-module _ (t head link places : List ℕ) (count : ℕ) (w : Listing t head link places count) (slot : List ℕ) (s : Holds slot) where
+module _ {t head link places : List ℕ} {count : ℕ} (w : Listing t head link places count) {slot : List ℕ} (s : Holds slot) where
   -- a name of another bucket is another name
   other : (k : ℕ) → k < count → (bucketAt t places k ≡ bucketOf slot → ⊥) → sameName (nameAt t (getD places k 0)) (nameIn slot) ≡ false
   other k l d = go (sameName (nameAt t (getD places k 0)) (nameIn slot)) refl
@@ -106,7 +106,7 @@ module _ (t head link places : List ℕ) (count : ℕ) (w : Listing t head link 
       sym (number-none (held t places count) (nameIn slot) (λ k l. ap (λ (x : List ℕ). sameName x (nameIn slot)) (held-at t places count k (omega arith)) ∙ z .rest k (omega arith) (omega arith)) ∙ m)
 
 -- ---- a name is met
-module _ (t head link places : List ℕ) (count p : ℕ) (w : Listing t head link places count) where
+module _ {t head link places : List ℕ} {count : ℕ} (w : Listing t head link places count) (p : ℕ) where
   abbrev x : List ℕ
   x = nameAt t p
 
@@ -221,9 +221,9 @@ module _ (t : List ℕ) (i : ℕ) where
   unfolding again
   again-is n = rw (lt-ltb 0 i (omega (arith, n)))
 
-  pub meets-again : (own head link places : List ℕ) (count : ℕ) → Listing t head link places count → Before t own (held t places count) i → again t i ≡ true →
+  pub meets-again : {own head link places : List ℕ} {count : ℕ} → Listing t head link places count → Before t own (held t places count) i → again t i ≡ true →
       Meets t count (numberIn (held t places count) (ownerAt t i)) (meeting (held t places count) (ownerAt t i)) head link places (record { number = getD own (i - 1) 0; count = count })
-  meets-again own head link places count w b h =
+  meets-again {own} {head} {link} {places} {count} w b h =
       let s = again-same h in
       let ns = held t places count in
       let e = number-same ns (ownerAt t (i - 1)) (ownerAt t i) (s .1) in
@@ -234,15 +234,15 @@ module _ (t : List ℕ) (i : ℕ) where
         most = omega arith;
       }
 
-  pub meets-owner : (head′ link′ places′ : List ℕ) (count : ℕ) (ns : List (List ℕ)) (m : Met) →
+  pub meets-owner : {head′ link′ places′ : List ℕ} {count : ℕ} (ns : List (List ℕ)) {m : Met} →
       Meets t count (numberIn ns (nameAt t (2 * i))) (meeting ns (nameAt t (2 * i))) head′ link′ places′ m → Meets t count (numberIn ns (ownerAt t i)) (meeting ns (ownerAt t i)) head′ link′ places′ m
-  meets-owner head′ link′ places′ count ns m r = rw (← slot-owner t i) r
+  meets-owner ns r = rw (← slot-owner t i) r
 
 -- ---- the target of a record is met, or there is none
 module _ (t : List ℕ) (i : ℕ) where
-  pub meets-none : (head link places : List ℕ) (count : ℕ) → Listing t head link places count → targetless (recordAt t i) ≡ true →
+  pub meets-none : {head link places : List ℕ} {count : ℕ} → Listing t head link places count → targetless (recordAt t i) ≡ true →
       Meets t count (targetIn (held t places count) t i) (meetingTarget t i (held t places count)) head link places (record { number = noTarget; count = count })
-  meets-none head link places count w h =
+  meets-none {head} {link} {places} {count} w h =
       let e = target-none (held t places count) t i h in record {
         numbered = sym (e .1);
         names-are = sym (e .0);
@@ -250,9 +250,9 @@ module _ (t : List ℕ) (i : ℕ) where
         most = omega arith;
       }
 
-  pub meets-target : (head′ link′ places′ : List ℕ) (count : ℕ) (ns : List (List ℕ)) (m : Met) → targetless (recordAt t i) ≡ false →
+  pub meets-target : {head′ link′ places′ : List ℕ} {count : ℕ} (ns : List (List ℕ)) {m : Met} → targetless (recordAt t i) ≡ false →
       Meets t count (numberIn ns (nameAt t (2 * i + 1))) (meeting ns (nameAt t (2 * i + 1))) head′ link′ places′ m →
       Meets t count (targetIn ns t i) (meetingTarget t i ns) head′ link′ places′ m
-  meets-target head′ link′ places′ count ns m h r =
+  meets-target ns h r =
       let e = target-some ns t i h in
       rw (e .0, e .1, ← slot-target t i) r

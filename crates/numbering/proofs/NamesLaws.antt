@@ -1,4 +1,4 @@
--- Laws of the names of a table: what is met has its number for good. Assumes nothing.
+-- Laws of the names of a table: what is met has its number for good.
 use Prim.Native.Nat.{ℕ, zero, suc, _+_, _-_, _*_, _≤_, _<_}
 use mathlib.Core.Path.{_≡_, refl, ap, sym, _∙_}
 use mathlib.Core.Bool.{Bool, true, false}

@@ -1,4 +1,4 @@
--- Laws of numbers in a list of names: a name that is met keeps its number. Assumes nothing.
+-- Laws of numbers in a list of names: a name that is met keeps its number.
 use Prim.Native.Nat.{ℕ, suc, _+_, _≤_, _<_}
 use mathlib.Core.Path.{_≡_, refl, ap, sym, _∙_}
 use mathlib.Core.Bool.{Bool, true, false}

@@ -1,4 +1,4 @@
--- The loop over the records: what is numbered so far, and a turn. Assumes nothing.
+-- The loop over the records: what is numbered so far, and a turn.
 use Prim.Native.Nat.{ℕ, _+_, _-_, _*_, _≤_, _<_}
 use mathlib.Core.Path.{_≡_, refl, ap, sym, _∙_}
 use mathlib.Core.List.{List}
@@ -22,8 +22,8 @@ pub record Going (t own₀ target₀ own target head link places : List ℕ) (co
   pub own-kept : length own ≡ length own₀
   pub target-kept : length target ≡ length target₀
 
-pub going-none : (t own target head link places : List ℕ) → Listing t head link places 0 → Going t own target own target head link places 0 0
-going-none t own target head link places w = record {
+pub going-none : {t own target head link places : List ℕ} → Listing t head link places 0 → Going t own target own target head link places 0 0
+going-none {t = t} {own = own} {target = target} {places = places} w = record {
   upto = omega arith;
   names = held-none t places ∙ sym (names-none t);
   listing = w;
@@ -34,15 +34,15 @@ going-none t own target head link places w = record {
   target-kept = refl;
 }
 
-pub going-all : (t own₀ target₀ own target head link places : List ℕ) (count i : ℕ) → Going t own₀ target₀ own target head link places count i → i ≡ countOf t →
+pub going-all : {t own₀ target₀ own target head link places : List ℕ} {count i : ℕ} → Going t own₀ target₀ own target head link places count i → i ≡ countOf t →
     (Complete t head link places count)
     × ((own ≡ filled (ownNumber t) (countOf t) own₀) × (target ≡ filled (targetNumber t) (countOf t) target₀))
-going-all t own₀ target₀ own target head link places count i g e = (
+going-all {t = t} {own₀ = own₀} {target₀ = target₀} {i = i} g e = (
   record { all = g .names ∙ names-all t i e; kept = g .listing },
   (g .owners ∙ ap (λ (n : ℕ). filled (ownNumber t) n own₀) e, g .targets ∙ ap (λ (n : ℕ). filled (targetNumber t) n target₀) e),
 )
 
-module _ (t own₀ target₀ own target head link places : List ℕ) (count i : ℕ) (g : Going t own₀ target₀ own target head link places count i) (h : i < countOf t) where
+module _ {t own₀ target₀ own target head link places : List ℕ} {count i : ℕ} (g : Going t own₀ target₀ own target head link places count i) (h : i < countOf t) where
   -- the number of the owner before record i is noted
   pub going-before : countOf t ≤ length own₀ → Before t own (held t places count) i
   going-before l = record {
@@ -54,11 +54,11 @@ module _ (t own₀ target₀ own target head link places : List ℕ) (count i : 
   }
 
   -- the owner of record i is met, and then its target
-  pub going-more : (head′ link′ places′ head″ link″ places″ : List ℕ) (m n : Met) →
+  pub going-more : {head′ link′ places′ head″ link″ places″ : List ℕ} {m n : Met} →
       Meets t count (numberIn (held t places count) (ownerAt t i)) (meeting (held t places count) (ownerAt t i)) head′ link′ places′ m →
       Meets t (m .count) (targetIn (held t places′ (m .count)) t i) (meetingTarget t i (held t places′ (m .count))) head″ link″ places″ n →
       Going t own₀ target₀ (set own i (m .number)) (set target i (n .number)) head″ link″ places″ (n .count) (i + 1)
-  going-more head′ link′ places′ head″ link″ places″ m n a b =
+  going-more {head′} {link′} {places′} {head″} {link″} {places″} {m} {n} a b =
       let e : held t places′ (m .count) ≡ meeting (namesTo t i) (ownerAt t i) = rw (g .names) at (a .names-are) in
       let p : m .number ≡ numberIn (namesTo t i) (ownerAt t i) = rw (g .names) at (a .numbered) in
       let q : m .number ≡ ownNumber t i = p ∙ own-met t i h in

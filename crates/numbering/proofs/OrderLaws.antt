@@ -1,4 +1,4 @@
--- What a table in order gives: places that hold names, and a graph with sound addresses. Assumes nothing.
+-- What a table in order gives: places that hold names, and a graph with sound addresses.
 use Prim.Native.Nat.{ℕ, _+_, _*_, _≤_, _<_}
 use mathlib.Core.Path.{_≡_, refl}
 use mathlib.Core.Bool.{Bool, true, false}
@@ -11,15 +11,12 @@ use Rattle.plan.specs.Check.{targetless, InOrder}
 use Rattle.plan.proofs.LayoutLaws.{record-length, record-small}
 use Rattle.plan.proofs.OrderLaws.{order-count, order-good}
 use Rattle.plan.proofs.RecordLaws.{address-length, address-small}
-use Rattle.chains.specs.Graph.{Sound}
-use Rattle.chains.proofs.RenamingLaws.{sound-renamed}
+use Rattle.chains.specs.Sound.{Sound}
 use Rattle.plan.specs.Graph.{graphOf}
-use Rattle.numbering.specs.Graph.{numbered}
 use Rattle.numbering.specs.Numbers.{namesOf, targetIn, targetNumber}
 use Rattle.numbering.specs.Buckets.{maxNames, Named}
 use Rattle.numbering.proofs.NamesLaws.{names-few, target-listed}
 use Rattle.numbering.proofs.HeldLaws.{slot-owner, slot-target}
-use Rattle.numbering.proofs.GraphLaws.{renamed}
 
 module _ (t : List ℕ) (o : InOrder t) where
   pub names-fit : length (namesOf t) ≤ maxNames
@@ -57,6 +54,3 @@ module _ (t : List ℕ) (o : InOrder t) where
     short = λ i h. order-good t o i h .prefix;
     lived = λ i h. order-good t o i h .lived;
   }
-
-  pub sound-numbered : Small t → Sound (numbered t)
-  sound-numbered s = sound-renamed (graphOf t) (numbered t) (renamed t) (λ i h. refl) (sound-graph s)

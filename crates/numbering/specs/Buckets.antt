@@ -1,4 +1,5 @@
--- How the list of names is kept while a table is numbered: each name by its place in the table, in buckets by the mark of its slot. Assumes nothing.
+-- How the list of names is kept while a table is numbered: each name by its place in the table, in buckets by the mark of its slot.
+-- The code's own: nothing that a reader must believe.
 use Prim.Native.Nat.{ℕ, zero, suc, _+_, _-_, _/_, _%_, _≤_, _<_}
 use mathlib.Core.Path.{_≡_}
 use mathlib.Core.Bool.{Bool, true, false, _&&_}

@@ -1,4 +1,4 @@
--- The A6 records of a table as a graph over the numbers of their names. Assumes nothing.
+-- The A6 records of a table as a graph over the numbers of their names. The code's own: nothing that a reader must believe.
 use Prim.Native.Nat.{ℕ}
 use mathlib.Core.Bool.{Bool, _&&_}
 use mathlib.Core.List.{List}

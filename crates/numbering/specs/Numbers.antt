@@ -1,4 +1,4 @@
--- The names of a table by number, so that a search need not compare names. Assumes nothing.
+-- The names of a table by number, so that a search need not compare names. The code's own: nothing that a reader must believe.
 use Prim.Native.Nat.{ℕ, zero, suc}
 use mathlib.Core.Bool.{true, false}
 use mathlib.Core.List.{List, [], _∷_, _++_}

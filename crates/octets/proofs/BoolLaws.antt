@@ -1,4 +1,4 @@
--- Laws of tests joined. Assumes nothing.
+-- Laws of tests joined.
 use mathlib.Core.Path.{_≡_, refl}
 use mathlib.Core.Bool.{Bool, true, false, _&&_, _||_}
 use native.Mathlib.Omega.{arith}

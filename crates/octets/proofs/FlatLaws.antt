@@ -1,4 +1,4 @@
--- Lists of one width, one after the other: how long that is, and what stands where. Assumes nothing.
+-- Lists of one width, one after the other: how long that is, and what stands where.
 use Prim.Native.Nat.{ℕ, zero, suc, _+_, _*_, _≤_, _<_}
 use mathlib.Core.Path.{_≡_, refl, sym, ap, subst, _∙_}
 use mathlib.Core.List.{List, [], _∷_, _++_, append-assoc}
@@ -6,7 +6,8 @@ use native.Mathlib.Nat.{zero-mul, suc-mul}
 use native.Mathlib.Omega.{arith}
 use lib.ListN.{length, getD, take, drop, length-append}
 use lib.Seq.{drop-cons, take-at, take-append-add, drop-append-add}
-use Rattle.octets.specs.Octets.{flat, Each}
+use Rattle.octets.specs.Octets.{flat}
+use Rattle.octets.specs.Each.{Each}
 
 pub flat-append : (xs ys : List (List ℕ)) → flat (xs ++ ys) ≡ flat xs ++ flat ys
 unfolding flat
@@ -18,16 +19,12 @@ module _ (w : ℕ) where
   each-at [] h = tt
   each-at (a ∷ l) h = (h 0 (omega arith), each-at l (λ i k. h (suc i) (omega arith)))
 
-  pub each-take : (k : ℕ) (l : List (List ℕ)) → Each w l → Each w (take k l)
-  each-take zero l e = tt
-  each-take (suc k) [] e = tt
-  each-take (suc k) (a ∷ l) e = (e .0, each-take k l (e .1))
-
   pub each-drop : (k : ℕ) (l : List (List ℕ)) → Each w l → Each w (drop k l)
   each-drop zero l e = e
   each-drop (suc k) [] e = tt
   each-drop (suc k) (a ∷ l) e = each-drop k l (e .1)
 
+  -- Theorem: lists of w octets, one after the other, have w octets for each list
   pub flat-length : (l : List (List ℕ)) → Each w l → length (flat l) ≡ length l * w
   unfolding flat
   flat-length [] e = sym (zero-mul w)
@@ -51,6 +48,7 @@ module _ (w : ℕ) where
         let s : suc k * w ≡ length a + k * w = omega (arith, e .0, suc-mul k w) in
         rw (s, append-assoc a (flat l) z) (drop-append-add a (flat l ++ z) (k * w) ∙ flat-drop k l (e .1) (omega arith))
 
+    -- Theorem: each list stands at its multiple of w
     pub flat-at : (k : ℕ) (l : List (List ℕ)) → Each w l → k < length l → take w (drop (k * w) (flat l ++ z)) ≡ getD l k []
     unfolding flat
     flat-at k l e h =

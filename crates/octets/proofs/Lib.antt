@@ -5,3 +5,4 @@ pub mod SmallLaws
 pub mod FlatLaws
 pub mod NumberLaws
 pub mod BoolLaws
+pub mod AnswerLaws

@@ -1,4 +1,4 @@
--- Laws of the numbers that octets write: they are as large as their octets allow, no two lists of one length write the same, and a number's octets write it. Assumes nothing.
+-- Laws of the numbers that octets write: they are as large as their octets allow, no two lists of one length write the same, and a number's octets write it.
 use Prim.Native.Nat.{ℕ, zero, suc, _+_, _-_, _*_, _/_, _%_, _^_, _≤_, _<_}
 use mathlib.Core.Path.{_≡_, refl, sym, ap, subst, _∙_}
 use mathlib.Core.List.{List, [], _∷_, _++_}
@@ -39,6 +39,7 @@ value-within n o at h s =
 pub value-half : (o : List ℕ) (at : ℕ) → at + 8 ≤ length o → Small o → valueOf (take 8 (drop at o)) < 2 ^ 64
 value-half = value-within 8
 
+-- Theorem: octets of one length that write the same number are the same octets
 pub value-injective : (xs ys : List ℕ) → length xs ≡ length ys → Small xs → Small ys → valueOf xs ≡ valueOf ys → xs ≡ ys
 unfolding valueOf
 value-injective [] [] e s t h = refl
@@ -85,6 +86,7 @@ value-octets (suc n) v =
 pub value-octets-all : (n v : ℕ) → v < 2 ^ (8 * n) → valueOf (octetsOf n v) ≡ v
 value-octets-all n v h = value-octets n v ∙ mod-eq-of-lt h
 
+-- Theorem: the octets of the number that octets write are those octets
 pub octets-value : (xs : List ℕ) → Small xs → octetsOf (length xs) (valueOf xs) ≡ xs
 octets-value xs s =
     let n = length xs in

@@ -1,4 +1,4 @@
--- Laws of zeros and of lists of octets. Assumes nothing.
+-- Laws of zeros and of lists of octets.
 use Prim.Native.Nat.{ℕ, zero, suc, _+_, _-_, _<_}
 use mathlib.Core.Path.{_≡_, refl}
 use mathlib.Core.List.{List, [], _∷_, _++_}
@@ -7,7 +7,8 @@ use lib.Seq.{getD-drop}
 use native.Mathlib.Omega.{arith}
 use native.Mathlib.Nat.{sub-zero, suc-sub-suc}
 use borrow.Author.Fill.{fill-more}
-use Rattle.octets.specs.Octets.{blank, Small, Under}
+use Rattle.octets.specs.Octets.{blank, Small}
+use Rattle.octets.specs.Each.{Under}
 
 pub length-blank : (n : ℕ) → length (blank n) ≡ n
 unfolding blank

@@ -1,4 +1,4 @@
--- Laws of the test for the same octets. Assumes nothing.
+-- Laws of the test for the same octets.
 use Prim.Native.Nat.{ℕ, _+_, _<_}
 use mathlib.Core.Path.{_≡_, refl, ap}
 use mathlib.Core.Bool.{Bool, true, false}

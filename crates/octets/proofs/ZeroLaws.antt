@@ -1,4 +1,4 @@
--- Laws of octets that are all zero. Assumes nothing.
+-- Laws of octets that are all zero.
 use Prim.Native.Nat.{ℕ, suc, _+_, _≤_, _<_}
 use mathlib.Core.Path.{_≡_, refl}
 use mathlib.Core.Bool.{Bool, true, false, _&&_}

@@ -2,3 +2,4 @@ pub mod Octets
 pub mod Answers
 pub mod Zeros
 pub mod Numbers
+pub mod Each

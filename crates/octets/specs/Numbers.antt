@@ -1,4 +1,4 @@
--- Numbers that octets write, and the octets of a number. Assumes nothing.
+-- Numbers that octets write, and the octets of a number.
 use Prim.Native.Nat.{ℕ, zero, suc, _+_, _*_, _/_, _%_, _^_}
 use mathlib.Core.List.{List, [], _∷_}
 use lib.ListN.{length}

@@ -2,7 +2,7 @@
 ghost use mathlib.Core.Path.{_≡_};
 ghost use Prim.Native.Nat.{_<_};
 ghost use lib.ListN.{length};
-ghost use Rattle.octets.specs.Octets.{blank};
+ghost use Rattle.octets.specs.Octets.{blank, same};
 ghost use Rattle.octets.specs.Answers.{refusal};
 
 // What an operation answers (01, What comes back): its number, 0 for done, and two figures that are 0 on a refusal.
@@ -34,6 +34,24 @@ pub fn clear(out: &mut [u8])
         out[i] = 0;
         i += 1;
     }
+}
+
+// Whether two lists are the same octets.
+pub fn equal(a: &[u8], b: &[u8]) -> bool
+    ensures { λ r. ⌜ r ≡ same (now (a .entry)) (now (b .entry)) ⌝ }
+{
+    let n = a.len();
+    if n != b.len() {
+        return false;
+    }
+    let mut i: usize = 0;
+    while i < n {
+        if a[i] != b[i] {
+            return false;
+        }
+        i += 1;
+    }
+    true
 }
 
 // An octet as an index or a length.

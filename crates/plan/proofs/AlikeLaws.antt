@@ -1,4 +1,4 @@
--- Laws of slots that are alike: eight octets at a time tell their first 32, and they hold the same name. Assumes nothing.
+-- Laws of slots that are alike: eight octets at a time tell their first 32, and they hold the same name.
 use Prim.Native.Nat.{ℕ, _+_, _/_, _%_, _≤_, _<_}
 use mathlib.Core.Path.{_≡_, refl, ap, _∙_, sym}
 use mathlib.Core.Bool.{Bool, true, false}
@@ -11,7 +11,7 @@ use native.Mathlib.Omega.{arith}
 use borrow.Author.Tests.{ltb-true}
 use Rattle.octets.specs.Octets.{same, Small}
 use Rattle.octets.proofs.SameLaws.{same-eq, same-refl}
-use Rattle.names.specs.Standard.{standardOf, sameName}
+use Rattle.names.specs.Standard.{keyOf, sameName}
 use Rattle.names.proofs.StandardLaws.{same-same-name}
 use Rattle.plan.specs.Layout.{slotSize, nameIn}
 use Rattle.plan.specs.Marks.{wordAt, pairAt, alikeOf}
@@ -113,5 +113,6 @@ module _ (a b : List ℕ) where
           name-front a l ∙ ap nameIn f ∙ sym (name-front b (omega arith))
       go false e = let k : false ≡ true = rw e at h in let z : _≡_ {A = ℕ} 0 1 = cc in let y : ⊥ = omega arith in absurd y
 
+  -- Theorem: slots that are alike hold the same name
   pub alike-same : alikeOf a b ≡ true → sameName (nameIn a) (nameIn b) ≡ true
-  alike-same h = same-same-name (nameIn a) (nameIn b) (ap standardOf (alike-name h))
+  alike-same h = same-same-name (nameIn a) (nameIn b) (ap keyOf (alike-name h))

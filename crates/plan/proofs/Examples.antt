@@ -1,14 +1,15 @@
--- Tables checked, by computation. Assumes nothing.
+-- Tables checked, by computation.
 use Prim.Native.Nat.{ℕ, _+_, _-_, _*_}
 use mathlib.Core.Path.{_≡_, refl}
 use mathlib.Core.Bool.{true, false}
 use mathlib.Core.List.{List, [], _∷_, _++_, map}
 use lib.ListN.{take, drop, set, replicate}
 use Rattle.octets.specs.Octets.{blank, flat}
-use Rattle.plan.specs.Layout.{recordSize, slotSize, addressSize, ttlPlace, a6, dname, ttlOf, slotOf, recordOf, recordsOf}
+use Rattle.plan.specs.Layout.{recordSize, slotSize, addressSize, ttlPlace, a6, dname, ttlOf, slotOf, recordOf}
 use Rattle.plan.specs.Check.{faultOf, checkOf}
 use Rattle.plan.specs.Marks.{markOf, alikeOf}
 use Rattle.plan.specs.Part.{ownerPart}
+use Rattle.plan.proofs.Computing.{tables-compute}
 
 -- names: the root, h.a, p.a, two bit labels side by side, and a name that is cut off
 root : List ℕ
@@ -73,19 +74,19 @@ alias owner target = made dname 0 zeros (slotOf owner) (slotOf target)
 faults-none : map faultOf (
     h64 ∷ p0 ∷ alias ha pa ∷ alias root root ∷ made a6 128 zeros (slotOf ha) (slotOf root) ∷ [])
     ≡ 0 ∷ 0 ∷ 0 ∷ 0 ∷ 0 ∷ []
-unfolding faultOf h64 p0 alias made slotOf ha pa root zeros
+unfolding tables-compute h64 p0 alias made ha pa root zeros
 faults-none = refl
 
 faults-type : map faultOf (made 40 0 five (slotOf pa) none ∷ made 12 0 zeros (slotOf pa) (slotOf ha) ∷ set h64 0 1 ∷ blank recordSize ∷ []) ≡ 1 ∷ 1 ∷ 1 ∷ 1 ∷ []
-unfolding faultOf h64 made slotOf ha pa five zeros none blank
+unfolding tables-compute h64 made ha pa five zeros none
 faults-type = refl
 
 faults-prefix : map faultOf (made a6 129 zeros (slotOf ha) (slotOf pa) ∷ made dname 1 zeros (slotOf ha) (slotOf pa) ∷ []) ≡ 2 ∷ 2 ∷ []
-unfolding faultOf made slotOf ha pa zeros
+unfolding tables-compute made ha pa zeros
 faults-prefix = refl
 
 faults-zero : map faultOf (set h64 3 1 ∷ set (alias ha pa) 3 128 ∷ []) ≡ 3 ∷ 3 ∷ []
-unfolding faultOf h64 alias ha pa
+unfolding tables-compute h64 alias ha pa
 faults-zero = refl
 
 -- bits among the first L, and any bit for DNAME; the bit just after the first L is free
@@ -93,14 +94,14 @@ faults-address : map faultOf (
     made a6 128 seven (slotOf ha) (slotOf pa) ∷ made a6 126 seven (slotOf ha) (slotOf pa) ∷ made a6 125 seven (slotOf ha) (slotOf pa)
     ∷ made a6 3 five (slotOf ha) (slotOf pa) ∷ made a6 2 five (slotOf ha) (slotOf pa) ∷ made dname 0 seven (slotOf ha) (slotOf pa) ∷ [])
     ≡ 4 ∷ 4 ∷ 0 ∷ 4 ∷ 0 ∷ 4 ∷ []
-unfolding faultOf made slotOf ha pa seven five
+unfolding tables-compute made ha pa seven five
 faults-address = refl
 
 faults-owner : map faultOf (
     made a6 0 five none none ∷ made a6 0 five (slotOf adjacent) none ∷ made a6 0 five (slotOf short) none
     ∷ made a6 0 five loose none ∷ made a6 0 five filled none ∷ made dname 0 zeros filled (slotOf pa) ∷ [])
     ≡ 5 ∷ 5 ∷ 5 ∷ 5 ∷ 5 ∷ 5 ∷ []
-unfolding faultOf made slotOf adjacent short loose filled zeros five none pa
+unfolding tables-compute made adjacent short loose filled zeros five none pa
 faults-owner = refl
 
 -- the root is a target, and no target is not the root
@@ -109,7 +110,7 @@ faults-target : map faultOf (
     ∷ made dname 0 zeros (slotOf ha) none ∷ made a6 64 seven (slotOf ha) filled ∷ made a6 64 seven (slotOf ha) (slotOf adjacent)
     ∷ made a6 64 seven (slotOf ha) (slotOf root) ∷ [])
     ≡ 6 ∷ 6 ∷ 6 ∷ 6 ∷ 6 ∷ 6 ∷ 0 ∷ []
-unfolding faultOf made slotOf ha pa root adjacent filled zeros five seven none
+unfolding tables-compute made ha pa root adjacent filled zeros five seven none
 faults-target = refl
 
 -- the greatest TTL is free of fault, the next one and the greatest that four octets write are not; a fault before it comes first
@@ -117,12 +118,12 @@ faults-ttl : map faultOf (
     recordOf a6 0 five (slotOf pa) none 0 ∷ recordOf a6 0 five (slotOf pa) none 2147483647 ∷ recordOf a6 0 five (slotOf pa) none 2147483648
     ∷ recordOf a6 0 five (slotOf pa) none 4294967295 ∷ recordOf dname 0 zeros (slotOf ha) (slotOf pa) 2147483648 ∷ recordOf a6 0 five (slotOf pa) (slotOf pa) 2147483648 ∷ [])
     ≡ 0 ∷ 0 ∷ 7 ∷ 7 ∷ 7 ∷ 6 ∷ []
-unfolding faultOf recordOf slotOf ha pa zeros five none
+unfolding tables-compute ha pa zeros five none
 faults-ttl = refl
 
 -- the high octet of a TTL stands first
 ttl-order : ttlOf (set p0 ttlPlace 1) ∷ ttlOf p0 ∷ ttlOf (set p0 (recordSize - 1) 17) ∷ [] ≡ 16780816 ∷ 3600 ∷ 3601 ∷ []
-unfolding ttlOf p0
+unfolding tables-compute p0
 ttl-order = refl
 
 good : List ℕ
@@ -134,18 +135,13 @@ checks : map checkOf (
     [] ∷ good ∷ drop 1 good ∷ (good ++ (0 ∷ [])) ∷ take (recordSize - 1) good ∷ flat (alias ha pa ∷ h64 ∷ alias ha ha ∷ set p0 3 1 ∷ [])
     ∷ flat (set p0 3 1 ∷ alias ha pa ∷ alias ha ha ∷ []) ∷ flat (alias ha pa ∷ h64 ∷ alias ha ha ∷ []) ∷ flat (alias pa pa ∷ alias ha pa ∷ alias pa pa ∷ []) ∷ [])
     ≡ 0 ∷ 0 ∷ 1 ∷ 1 ∷ 1 ∷ 2 ∷ 2 ∷ 3 ∷ 3 ∷ []
-unfolding checkOf flat good h64 p0 alias ha pa
+unfolding tables-compute good h64 p0 alias ha pa
 checks = refl
-
--- a table and its records
-records : recordsOf good ≡ h64 ∷ p0 ∷ p0 ∷ alias pa ha ∷ alias ha ha ∷ []
-unfolding recordsOf good h64 p0 alias
-records = refl
 
 -- the owner part: of each kind of record, past the last record, and of a table that earns 3
 parts : ownerPart good 0 ∷ ownerPart good 3 ∷ ownerPart good 5 ∷ ownerPart (flat (alias ha pa ∷ alias ha ha ∷ [])) 0 ∷ []
     ≡ record { offset = 21; length = 5 } ∷ record { offset = 3 * recordSize + 21; length = 5 } ∷ record { offset = 0; length = 0 } ∷ record { offset = 0; length = 0 } ∷ []
-unfolding ownerPart flat good h64 p0 alias ha pa
+unfolding tables-compute good h64 p0 alias ha pa
 parts = refl
 
 -- a label of forty octets that ends in x, so that two such names differ past the first 32 octets of their slots
@@ -154,10 +150,10 @@ long x = 40 ∷ replicate 39 97 ++ (x ∷ 0 ∷ [])
 
 -- marks of slots, and slots that are alike: the same short name is, a long one is not even with itself
 marks : map markOf (slotOf root ∷ slotOf ha ∷ slotOf pa ∷ slotOf (long 1) ∷ slotOf (long 2) ∷ []) ≡ 52373 ∷ 15396 ∷ 37843 ∷ 20288 ∷ 20068 ∷ []
-unfolding markOf slotOf root ha pa long
+unfolding markOf slotOf root ha pa long blank
 marks = refl
 
 alikes : alikeOf (slotOf ha) (slotOf ha) ∷ alikeOf (slotOf ha) (slotOf pa) ∷ alikeOf (slotOf (long 1)) (slotOf (long 2)) ∷ alikeOf (slotOf (long 1)) (slotOf (long 1)) ∷ []
     ≡ true ∷ false ∷ false ∷ false ∷ []
-unfolding alikeOf slotOf ha pa long
+unfolding alikeOf slotOf ha pa long blank
 alikes = refl

@@ -1,4 +1,4 @@
--- Laws of a record's faults: the fields in their order, and what a record without a fault is like. Assumes nothing.
+-- Laws of a record's faults: the fields in their order, and what a record without a fault is like.
 use Prim.Native.Nat.{ℕ, _≤_}
 use mathlib.Core.Path.{_≡_, refl, ap, _∙_, sym}
 use mathlib.Core.Bool.{Bool, true, false, not}
@@ -8,8 +8,9 @@ use lib.Dec.{leb, eqb}
 use native.Mathlib.Omega.{arith}
 use borrow.Author.Tests.{eq-eqb, ne-eqb, eqb-true, eqb-false, le-leb, leb-true, not-false}
 use Rattle.octets.proofs.BoolLaws.{and-false}
-use Rattle.octets.proofs.SmallLaws.{earns-zero}
+use Rattle.octets.proofs.AnswerLaws.{earns-zero}
 use Rattle.octets.specs.Octets.{blank, same}
+use Rattle.octets.specs.Answers.{earns}
 use Rattle.octets.proofs.SameLaws.{same-eq, same-refl}
 use Rattle.names.specs.Standard.{inStandardForm}
 use Rattle.address.specs.Address.{clearTo}
@@ -19,41 +20,53 @@ use Rattle.plan.specs.Layout.{slotSize, a6, dname, typeOf, prefixOf, zer
 use Rattle.plan.specs.Check.{slotGood, slotEmpty, typeGood, prefixGood, addressGood, targetless, targetGood, ttlGood, faultOf}
 use Rattle.plan.specs.Good.{Holds, Good}
 
--- the first field at fault
+-- what the tests from a field on earn, the last field first
 module _ (r : List ℕ) where
-  pub fault-type : typeGood r ≡ false → faultOf r ≡ 1
-  unfolding faultOf
-  fault-type a = rw a
+  abbrev pub fromTtl : ℕ
+  fromTtl = earns (not (ttlGood r)) 7 0
 
-  pub fault-prefix : typeGood r ≡ true → prefixGood r ≡ false → faultOf r ≡ 2
-  unfolding faultOf
-  fault-prefix a b = rw (a, b)
+  abbrev pub fromTarget : ℕ
+  fromTarget = earns (not (targetGood r)) 6 fromTtl
 
-  pub fault-zero : typeGood r ≡ true → prefixGood r ≡ true → (zeroOf r ≡ 0 → ⊥) → faultOf r ≡ 3
-  unfolding faultOf
-  fault-zero a b c = rw (a, b, ne-eqb (zeroOf r) 0 c)
+  abbrev pub fromOwner : ℕ
+  fromOwner = earns (not (slotGood (ownerSlot r))) 5 fromTarget
 
-  pub fault-address : typeGood r ≡ true → prefixGood r ≡ true → zeroOf r ≡ 0 → addressGood r ≡ false → faultOf r ≡ 4
-  unfolding faultOf
-  fault-address a b c d = rw (a, b, eq-eqb (zeroOf r) 0 c, d)
+  abbrev pub fromAddress : ℕ
+  fromAddress = earns (not (addressGood r)) 4 fromOwner
 
-  pub fault-owner : typeGood r ≡ true → prefixGood r ≡ true → zeroOf r ≡ 0 → addressGood r ≡ true → slotGood (ownerSlot r) ≡ false → faultOf r ≡ 5
-  unfolding faultOf
-  fault-owner a b c d e = rw (a, b, eq-eqb (zeroOf r) 0 c, d, e)
+  abbrev pub fromZero : ℕ
+  fromZero = earns (not (eqb (zeroOf r) 0)) 3 fromAddress
 
-  pub fault-target : typeGood r ≡ true → prefixGood r ≡ true → zeroOf r ≡ 0 → addressGood r ≡ true → slotGood (ownerSlot r) ≡ true → targetGood r ≡ false → faultOf r ≡ 6
-  unfolding faultOf
-  fault-target a b c d e f = rw (a, b, eq-eqb (zeroOf r) 0 c, d, e, f)
+  abbrev pub fromPrefix : ℕ
+  fromPrefix = earns (not (prefixGood r)) 2 fromZero
 
-  pub fault-ttl : typeGood r ≡ true → prefixGood r ≡ true → zeroOf r ≡ 0 → addressGood r ≡ true → slotGood (ownerSlot r) ≡ true → targetGood r ≡ true → ttlGood r ≡ false
-      → faultOf r ≡ 7
-  unfolding faultOf
-  fault-ttl a b c d e f g = rw (a, b, eq-eqb (zeroOf r) 0 c, d, e, f, g)
+  abbrev pub fromType : ℕ
+  fromType = earns (not (typeGood r)) 1 fromPrefix
 
-  pub fault-none : typeGood r ≡ true → prefixGood r ≡ true → zeroOf r ≡ 0 → addressGood r ≡ true → slotGood (ownerSlot r) ≡ true → targetGood r ≡ true → ttlGood r ≡ true
-      → faultOf r ≡ 0
+  pub fault-from : faultOf r ≡ fromType
   unfolding faultOf
-  fault-none a b c d e f g = rw (a, b, eq-eqb (zeroOf r) 0 c, d, e, f, g)
+  fault-from = refl
+
+-- a test whose answer x is that of the field: it fails and earns its number, or it passes and the later ones are left
+module _ {x b : Bool} (n later : ℕ) (e : x ≡ b) where
+  pub test-fails : not x ≡ true → earns (not b) n later ≡ n
+  test-fails h = rw (← e, h)
+
+  pub test-passes : not x ≡ false → earns (not b) n later ≡ later
+  test-passes h = rw (← e, h)
+
+-- the same for a number x that is to be 0
+module _ {x k : ℕ} (n later : ℕ) (e : x ≡ k) where
+  pub zero-fails : (x ≡ 0 → ⊥) → earns (not (eqb k 0)) n later ≡ n
+  zero-fails h = rw (← e, ne-eqb x 0 h)
+
+  pub zero-passes : x ≡ 0 → earns (not (eqb k 0)) n later ≡ later
+  zero-passes h = rw (← e, eq-eqb x 0 h)
+
+fault-none : (r : List ℕ) → typeGood r ≡ true → prefixGood r ≡ true → zeroOf r ≡ 0 → addressGood r ≡ true → slotGood (ownerSlot r) ≡ true → targetGood r ≡ true
+    → ttlGood r ≡ true → faultOf r ≡ 0
+unfolding faultOf
+fault-none r a b c d e f g = rw (a, b, eq-eqb (zeroOf r) 0 c, d, e, f, g)
 
 -- the tests of the fields, by the type
 module _ (r : List ℕ) where
@@ -108,9 +121,6 @@ module _ (r : List ℕ) where
   pub targetless-other : (typeOf r ≡ a6 → ⊥) → targetless r ≡ false
   unfolding targetless
   targetless-other h = rw (a6-not h)
-
-  pub targetless-a6 : typeOf r ≡ a6 → prefixOf r ≡ 0 → targetless r ≡ true
-  targetless-a6 h k = targetless-is h ∙ eq-eqb (prefixOf r) 0 k
 
   pub targetless-on : (prefixOf r ≡ 0 → ⊥) → targetless r ≡ false
   unfolding targetless
@@ -183,7 +193,7 @@ passes r h =
       ttl = not-false (ttlGood r) (g .0);
     }
 
--- a record is without a fault exactly when its fields are as the layout says
+-- Theorem: a record without a fault has its fields as the layout says
 pub fault-good : (r : List ℕ) → faultOf r ≡ 0 → Good r
 fault-good r h = by-type (eqb (typeOf r) a6) refl
   where
@@ -230,6 +240,7 @@ fault-good r h = by-type (eqb (typeOf r) a6) refl
           lived = lived;
         }
 
+-- Theorem: a record whose fields are as the layout says has no fault
 pub good-fault : (r : List ℕ) → Good r → faultOf r ≡ 0
 good-fault r g = by-type (g .kind)
   where

@@ -1,4 +1,4 @@
--- Laws of the least number that passes a test. Assumes nothing.
+-- Laws of the least number that passes a test.
 use Prim.Native.Nat.{ℕ, zero, suc, _+_, _-_, _≤_, _<_}
 use mathlib.Core.Path.{_≡_, refl, ap, _∙_}
 use mathlib.Core.Bool.{Bool, true, false}

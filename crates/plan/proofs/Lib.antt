@@ -9,3 +9,5 @@ pub mod MarkLaws
 pub mod AlikeLaws
 pub mod PartLaws
 pub mod Examples
+pub mod EntryLaws
+pub mod Computing

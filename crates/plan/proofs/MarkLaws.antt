@@ -1,4 +1,4 @@
--- Laws of marks: slots of the same name have the same mark. Assumes nothing.
+-- Laws of marks: slots of the same name have the same mark.
 use Prim.Native.Nat.{ℕ, zero, suc, _+_, _*_, _^_, _≤_, _<_}
 use mathlib.Core.Path.{_≡_, refl, ap, _∙_, sym}
 use mathlib.Core.Bool.{Bool, true, false}
@@ -21,7 +21,8 @@ use Rattle.plan.specs.Marks.{termAt, sumTo, sumOf, markOf, markAt, Marke
 use Rattle.plan.proofs.FirstLaws.{none-first, none-some}
 use Rattle.plan.proofs.OrderLaws.{sound-good}
 
--- the one law that ties marks to the equality of names: a slot that holds a name is determined by it
+-- Theorem: slots of the same name have the same mark, since a slot that holds a name is determined by it; the one law that ties marks to the equality
+-- of names
 pub same-mark : (s s′ : List ℕ) → Holds s → Holds s′ → sameName (nameIn s) (nameIn s′) ≡ true → markOf s ≡ markOf s′
 same-mark s s′ p q h = ap markOf (p .whole ∙ ap slotOf (same-eq (nameIn s) (nameIn s′) (same-octets (nameIn s) (nameIn s′) (p .name) (q .name) ∙ h)) ∙ sym (q .whole))
 

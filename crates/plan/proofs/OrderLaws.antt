@@ -1,4 +1,4 @@
--- Laws of a table in order: its size, its records, and that its DNAMEs have owners of their own. Assumes nothing.
+-- Laws of a table in order: its size, its records, and that its DNAMEs have owners of their own.
 use Prim.Native.Nat.{ℕ, _*_, _%_, _≤_, _<_}
 use mathlib.Core.Path.{_≡_, refl, ap, _∙_, sym}
 use mathlib.Core.Bool.{Bool, true, false, not, _||_}
@@ -8,13 +8,14 @@ use lib.ListN.{length, getD}
 use native.Mathlib.Omega.{arith}
 use borrow.Author.Tests.{eq-eqb, ne-eqb, eqb-true, lt-ltb, le-ltb, ltb-true, ltb-false, not-false}
 use Rattle.octets.specs.Octets.{flat}
-use Rattle.octets.proofs.SmallLaws.{earns-zero}
+use Rattle.octets.proofs.AnswerLaws.{earns-zero}
 use Rattle.octets.specs.Answers.{refusal}
 use Rattle.names.specs.Standard.{sameName, inStandardForm}
 use Rattle.names.proofs.StandardLaws.{same-name-same, same-same-name}
 use Rattle.names.proofs.RoundLaws.{same-symmetric}
 use Rattle.plan.specs.First.{some}
-use Rattle.plan.specs.Layout.{recordSize, maxRecords, dname, typeOf, isDname, countOf, recordAt, typeAt, ownerAt, ownerOf}
+use Rattle.plan.specs.Layout.{recordSize, maxRecords, dname, typeOf, isDname, countOf, recordAt, ownerAt, ownerOf}
+use Rattle.plan.specs.Records.{typeAt}
 use Rattle.plan.specs.Check.{faultOf, faulty, firstFault, twin, repeats, firstRepeat, missized, checkOf, checkAnswer, InOrder}
 use Rattle.plan.specs.Good.{Good}
 use Rattle.plan.proofs.LayoutLaws.{Whole, octets-length, count-octets, record-octets}
@@ -102,10 +103,12 @@ module _ (t : List ℕ) (o : InOrder t) where
   unfolding checkOf
   sized = earns-zero (missized t) 0 _ o .0
 
+  -- Theorem: a table in order is whole records
   pub order-length : length t ≡ countOf t * recordSize
   unfolding missized countOf
   order-length = let e = eqb-true (length t % recordSize) 0 (neither (eqb (length t % recordSize) 0) _ sized .0) in omega arith
 
+  -- Theorem: a table in order has no more records than a table may have
   pub order-count : countOf t ≤ maxRecords
   unfolding missized
   order-count = ltb-false maxRecords (countOf t) (neither (eqb (length t % recordSize) 0) _ sized .1)
@@ -119,12 +122,14 @@ module _ (t : List ℕ) (o : InOrder t) where
   order-repeat =
       some-none (repeats t) (countOf t) (earns-zero (ltb (firstRepeat t) (countOf t)) 2 _ (earns-zero (ltb (firstFault t) (countOf t)) 1 _ (earns-zero (missized t) 0 _ o .1) .1) .0)
 
+  -- Theorem: in a table in order every field of every record is as the layout says
   pub order-good : (i : ℕ) → i < countOf t → Good (recordAt t i)
   order-good = sound-good t order-sound
 
   pub order-apart : (i j : ℕ) → i < j → j < countOf t → typeAt t i ≡ dname → typeAt t j ≡ dname → sameName (ownerAt t i) (ownerAt t j) ≡ false
   order-apart = apart t order-repeat
 
+  -- Theorem: in a table in order no two DNAMEs have the same owner
   pub order-differ : (i j : ℕ) → i < countOf t → j < countOf t → (i ≡ j → ⊥) → typeAt t i ≡ dname → typeAt t j ≡ dname → sameName (ownerAt t i) (ownerAt t j) ≡ false
   order-differ i j p q n d e = go (ltb i j) refl
     where
@@ -165,6 +170,7 @@ module _ (rs : List (List ℕ)) (w : Whole rs) where
       at-j j h false e = rw e
       at-j j h true e = rw e (none-some (twin t j) j (none-first (twin t j) j (λ i p. at-i j i p h e (isDname (recordAt t i)) refl)))
 
+  -- Theorem: records without a fault, not too many and with no two DNAMEs of one owner, make a table in order
   pub order-made : length rs ≤ maxRecords → ((i : ℕ) → i < length rs → Good (getD rs i []))
       → ((i j : ℕ) → i < j → j < length rs → typeOf (getD rs i []) ≡ dname → typeOf (getD rs j []) ≡ dname → sameName (ownerOf (getD rs i [])) (ownerOf (getD rs j [])) ≡ false)
       → InOrder (flat rs)

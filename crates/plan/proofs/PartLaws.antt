@@ -1,18 +1,23 @@
--- Laws of the part of a table that an owner takes. Assumes nothing.
+-- Laws of the part of a table that an owner takes.
 use Prim.Native.Nat.{ℕ, zero, suc, _+_, _*_, _≤_, _<_}
 use mathlib.Core.Path.{_≡_, refl, ap, _∙_}
 use mathlib.Core.Bool.{Bool, true, false}
 use mathlib.Core.List.{List, [], _∷_}
 use lib.Dec.{ltb, eqb}
-use lib.ListN.{length, getD, take, drop}
-use lib.Seq.{drop-drop}
+use lib.ListN.{length, getD, take, drop, length-drop}
+use lib.Seq.{drop-drop, length-take-le}
 use native.Mathlib.Omega.{arith}
 use borrow.Author.Tests.{eq-eqb, ne-eqb, eqb-true, eqb-false, lt-ltb, le-ltb, ltb-true, ltb-false}
 use Rattle.octets.specs.Octets.{Small}
+use Rattle.octets.proofs.BoolLaws.{clash}
+use Rattle.labels.specs.Scan.{scanFrom, scanOf, fills, wellFormed}
+use Rattle.names.specs.Standard.{inStandardForm}
+use Rattle.names.proofs.StandardLaws.{in-standard}
+use Rattle.chains.specs.Lists.{pick}
 use Rattle.plan.specs.declared.Part.{Part}
 use Rattle.plan.specs.Layout.{recordSize, maxRecords, slotSize, ownerPlace, nameIn, ownerSlot, countOf, recordAt, ownerAt}
 use Rattle.plan.specs.Check.{checkOf, InOrder}
-use Rattle.plan.proofs.OrderLaws.{order-length, order-count}
+use Rattle.plan.proofs.OrderLaws.{order-length, order-count, order-good}
 use Rattle.plan.specs.Part.{ownerWithin, emptyPart, ownerPart}
 use Rattle.plan.proofs.LayoutLaws.{record-fits, record-small}
 use Rattle.plan.proofs.RecordLaws.{owner-small, owner-short, take-drop-take}
@@ -77,6 +82,38 @@ part-small t i = go (eqb (checkOf t) 0) refl
     go true e = let o : InOrder t = eqb-true (checkOf t) 0 e in omega (arith, part-fits t i, order-length t o, order-count t o)
     go false e = rw (part-refused t i (eqb-false (checkOf t) 0 e)) (omega arith)
 
--- the part that is shown of a table in order is the record's owner
+-- a part is as long as it says
+pub part-long : (t : List ℕ) (i : ℕ) → length (take (ownerPart t i .length) (drop (ownerPart t i .offset) t)) ≡ ownerPart t i .length
+part-long t i =
+    length-take-le (ownerPart t i .length) (drop (ownerPart t i .offset) t) (omega (arith, part-fits t i, length-drop (ownerPart t i .offset) t))
+
+-- the empty part begins at 0, and any other where its record's owner does
+name-some : (xs : List ℕ) → inStandardForm xs ≡ true → length xs ≡ 0 → ⊥
+unfolding wellFormed fills scanOf scanFrom
+name-some [] h e = clash (in-standard [] h .0) refl
+name-some (x ∷ xs) h e = omega arith
+
+module _ (t : List ℕ) (i : ℕ) where
+  abbrev placed : Part → ℕ
+  placed p = pick (eqb (p .length) 0) 0 (i * recordSize + (ownerPlace + 1))
+
+  pub part-place : (ownerPart t i .offset ≡ placed (ownerPart t i)) × ((ownerPart t i .length ≡ 0 → ⊥) → i < maxRecords)
+  unfolding ownerWithin
+  part-place = go (eqb (checkOf t) 0) (ltb i (countOf t)) refl refl
+    where
+      by : {p : Part} → ownerPart t i ≡ p → (p .offset ≡ placed p) × ((p .length ≡ 0 → ⊥) → i < maxRecords)
+          → (ownerPart t i .offset ≡ placed (ownerPart t i)) × ((ownerPart t i .length ≡ 0 → ⊥) → i < maxRecords)
+      by e h = rw e h
+
+      go : (v w : Bool) → eqb (checkOf t) 0 ≡ v → ltb i (countOf t) ≡ w
+          → (ownerPart t i .offset ≡ placed (ownerPart t i)) × ((ownerPart t i .length ≡ 0 → ⊥) → i < maxRecords)
+      go true true e f =
+          let o : InOrder t = eqb-true (checkOf t) 0 e in
+          let h = ltb-true i (countOf t) f in
+          by (part-in t i o h) (rw (ne-eqb (length (ownerAt t i)) 0 (name-some (ownerAt t i) (order-good t o i h .owner .name))), λ n. omega (arith, order-count t o, h))
+      go true false e f = by (part-past t i (eqb-true (checkOf t) 0 e) (ltb-false i (countOf t) f)) (refl, λ n. absurd (n refl))
+      go false w e f = by (part-refused t i (eqb-false (checkOf t) 0 e)) (refl, λ n. absurd (n refl))
+
+-- Theorem: the part that is shown of a table in order is the record's owner
 pub part-owner : (t : List ℕ) (i : ℕ) → Small t → InOrder t → i < countOf t → take (ownerPart t i .length) (drop (ownerPart t i .offset) t) ≡ ownerAt t i
 part-owner t i s o h = rw (part-in t i o h) (owner-within t i s)

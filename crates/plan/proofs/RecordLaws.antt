@@ -1,4 +1,4 @@
--- Laws of a record's fields: how long they are, and a record made of them. Assumes nothing.
+-- Laws of a record's fields: how long they are, and a record made of them.
 use Prim.Native.Nat.{ℕ, zero, suc, _+_, _-_, _*_, _/_, _%_, _^_, _≤_, _<_}
 use mathlib.Core.Path.{_≡_, refl, ap, _∙_, sym}
 use mathlib.Core.List.{List, [], _∷_, _++_, append-assoc}

@@ -1,8 +1,8 @@
--- Laws of slots. Assumes nothing.
+-- Laws of slots.
 use Prim.Native.Nat.{ℕ, _+_, _-_, _≤_, _<_}
 use mathlib.Core.Path.{_≡_, refl, ap, _∙_, sym}
 use mathlib.Core.Bool.{Bool, true, false}
-use mathlib.Core.List.{List, [], _∷_, _++_}
+use mathlib.Core.List.{List, _∷_, _++_}
 use lib.ListN.{length, getD, take, drop, length-append, length-drop, take-append-drop}
 use lib.Seq.{paste, length-take-le, take-length, take-append-seam, drop-drop, drop-cons, drop-at}
 use native.Mathlib.Omega.{arith}
@@ -79,11 +79,6 @@ name-small s m = small-take (getD s 0 0) (drop 1 s) (small-drop 1 s m)
 pub slot-empty : (s : List ℕ) → length s ≡ slotSize → isBlank s ≡ slotEmpty s
 unfolding isBlank slotEmpty
 slot-empty s l = rw l
-
--- a slot without a name has none
-pub none-name : nameIn (blank slotSize) ≡ []
-unfolding nameIn blank
-none-name = refl
 
 -- the slot that is made of a name
 module _ (name : List ℕ) (h : length name ≤ nameRoom) where

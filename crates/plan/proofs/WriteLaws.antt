@@ -1,4 +1,4 @@
--- Laws of writing a record field by field. Assumes nothing.
+-- Laws of writing a record field by field.
 use Prim.Native.Nat.{ℕ, _+_, _/_, _%_, _≤_}
 use mathlib.Core.Path.{_≡_, refl, sym, ap, _∙_}
 use mathlib.Core.List.{List, [], _∷_, _++_, append-assoc}

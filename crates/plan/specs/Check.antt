@@ -1,4 +1,4 @@
--- The check of a table (01, The plan table; What comes back, 1 to 3; T-01). Assumes nothing.
+-- The check of a table (01, The plan table; What comes back, 1 to 3; T-01).
 use Prim.Native.Nat.{ℕ, _%_}
 use mathlib.Core.Path.{_≡_}
 use mathlib.Core.Bool.{Bool, true, false, not, _&&_, _||_}
@@ -6,53 +6,45 @@ use mathlib.Core.List.{List}
 use lib.Dec.{leb, ltb, eqb}
 use lib.ListN.{length}
 use Rattle.octets.specs.Octets.{blank, same}
-use Rattle.octets.specs.Answers.{earns}
+use Rattle.octets.specs.Answers.{earns, orElse, refusal}
+use Rattle.labels.specs.Scan.{wellFormed}
 use Rattle.octets.specs.declared.Answer.{Answer}
 use Rattle.names.specs.Standard.{sameName, inStandardForm}
 use Rattle.address.specs.Address.{clearTo}
 use Rattle.chains.specs.Graph.{maxTtl}
-use Rattle.plan.specs.First.{firstFrom, first, some}
+use Rattle.plan.specs.First.{first, some}
 use Rattle.plan.specs.Layout.{recordSize, maxRecords, slotSize, prefixOf, zeroOf, addressOf, ownerSlot, targetSlot, ttlOf, nameIn, slotOf, isA6, isDname, countOf, recordAt, ownerAt}
 
 -- the slot holds a name in standard form that fills the length, and zeros after it
 unfoldable pub slotGood : List ℕ → Bool
-unfolding nameIn slotOf inStandardForm same
 slotGood s = inStandardForm (nameIn s) && same s (slotOf (nameIn s))
 
 -- the slot is all zero: it holds no name. The root, of length 1, is a name.
 unfoldable pub slotEmpty : List ℕ → Bool
-unfolding blank same
 slotEmpty s = same s (blank slotSize)
 
 -- the tests of a record's fields, in the order of the layout. Any type but A6 is laid out like DNAME: no prefix, no address, a target.
 unfoldable pub typeGood : List ℕ → Bool
-unfolding isA6 isDname
 typeGood r = isA6 r || isDname r
 
 unfoldable pub prefixGood : List ℕ → Bool
-unfolding isA6 prefixOf
 prefixGood r = elim (isA6 r) [ true ↦ leb (prefixOf r) 128 | false ↦ eqb (prefixOf r) 0 ]
 
 unfoldable pub addressGood : List ℕ → Bool
-unfolding isA6 prefixOf addressOf clearTo
 addressGood r = elim (isA6 r) [ true ↦ clearTo (prefixOf r) (addressOf r) | false ↦ clearTo 128 (addressOf r) ]
 
 -- an A6 record with L = 0 is finished and leads to no name
 unfoldable pub targetless : List ℕ → Bool
-unfolding isA6 prefixOf
 targetless r = isA6 r && eqb (prefixOf r) 0
 
 unfoldable pub targetGood : List ℕ → Bool
-unfolding targetless targetSlot slotEmpty slotGood
 targetGood r = elim (targetless r) [ true ↦ slotEmpty (targetSlot r) | false ↦ slotGood (targetSlot r) ]
 
 unfoldable pub ttlGood : List ℕ → Bool
-unfolding ttlOf
 ttlGood r = leb (ttlOf r) maxTtl
 
 -- the first field at fault: 1 type, 2 prefix length, 3 zero octet, 4 address, 5 owner, 6 target, 7 TTL; 0 where none is
 unfoldable pub faultOf : List ℕ → ℕ
-unfolding typeGood prefixGood zeroOf addressGood slotGood ownerSlot targetGood ttlGood
 faultOf r =
     earns (not (typeGood r)) 1
     (earns (not (prefixGood r)) 2
@@ -60,52 +52,46 @@ faultOf r =
     (earns (not (addressGood r)) 4
     (earns (not (slotGood (ownerSlot r))) 5
     (earns (not (targetGood r)) 6
-    (earns (not (ttlGood r)) 7
-    0))))))
+    (earns (not (ttlGood r)) 7 0))))))
 
 -- record i has a field at fault
 unfoldable pub faulty : List ℕ → ℕ → Bool
-unfolding faultOf recordAt
 faulty t i = not (eqb (faultOf (recordAt t i)) 0)
 
 -- the first record at fault
 unfoldable pub firstFault : List ℕ → ℕ
-unfolding faulty countOf firstFrom
 firstFault t = first (faulty t) (countOf t)
 
 -- record i is a DNAME with the owner of record j
 unfoldable pub twin : List ℕ → ℕ → ℕ → Bool
-unfolding isDname nameIn ownerSlot recordAt sameName
 twin t j i = isDname (recordAt t i) && sameName (ownerAt t i) (ownerAt t j)
 
 -- record j is a DNAME whose owner an earlier DNAME has
 unfoldable pub repeats : List ℕ → ℕ → Bool
-unfolding isDname recordAt twin firstFrom
 repeats t j = isDname (recordAt t j) && some (twin t j) j
 
 -- the first record that is such a DNAME
 unfoldable pub firstRepeat : List ℕ → ℕ
-unfolding repeats countOf firstFrom
 firstRepeat t = first (repeats t) (countOf t)
 
 -- the length is no multiple of a record's, or makes too many records
 unfoldable pub missized : List ℕ → Bool
-unfolding countOf
 missized t = not (eqb (length t % recordSize) 0) || ltb maxRecords (countOf t)
 
 -- the number that a table earns; 0 for a table in order
 unfoldable pub checkOf : List ℕ → ℕ
-unfolding missized firstFault firstRepeat countOf
 checkOf t =
     earns (missized t) 1
     (earns (ltb (firstFault t) (countOf t)) 2
-    (earns (ltb (firstRepeat t) (countOf t)) 3
-    0))
+    (earns (ltb (firstRepeat t) (countOf t)) 3 0))
 
 -- the check answers the number alone
-unfoldable pub checkAnswer : List ℕ → Answer
-unfolding checkOf
-checkAnswer t = record { number = checkOf t; count = 0; work = 0 }
+abbrev pub checkAnswer : List ℕ → Answer
+checkAnswer t = refusal (checkOf t)
+
+-- the number that a table and a given name earn together: the table's, then 4 for a malformed name
+unfoldable pub entryNumber : List ℕ → List ℕ → ℕ
+entryNumber t name = orElse (checkOf t) (earns (not (wellFormed name)) 4 0)
 
 -- a table in order (01's term): it earns none of 1, 2 and 3
 abbrev pub InOrder : List ℕ → Type 0

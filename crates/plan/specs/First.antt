@@ -1,4 +1,4 @@
--- The least number that passes a test. Assumes nothing.
+-- The least number that passes a test.
 use Prim.Native.Nat.{ℕ, zero, suc}
 use mathlib.Core.Bool.{Bool, true, false}
 use lib.Dec.{ltb}

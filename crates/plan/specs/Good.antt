@@ -1,4 +1,4 @@
--- What a record with no field at fault is like, said field by field (01, The plan table; T-01). Assumes nothing.
+-- What a record with no field at fault is like, said field by field (01, The plan table; T-01). The code's own: nothing that a reader must believe.
 use Prim.Native.Nat.{ℕ, _≤_}
 use mathlib.Core.Path.{_≡_}
 use mathlib.Core.Bool.{true, false}

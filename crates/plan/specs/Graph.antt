@@ -1,14 +1,13 @@
--- The A6 records of a table as the graph that 01 (Chains) speaks of: names are octets, in any spelling. Assumes nothing.
+-- The A6 records of a table as the graph that 01 (Chains) speaks of: names are octets, in any spelling.
 use Prim.Native.Nat.{ℕ}
 use mathlib.Core.Bool.{Bool, _&&_}
 use mathlib.Core.List.{List}
 use Rattle.names.specs.Standard.{sameName}
 use Rattle.chains.specs.Graph.{Graph}
-use Rattle.plan.specs.Layout.{ownerSlot, nameIn, isA6, countOf, recordAt, prefixAt, addressAt, ownerAt, targetAt, ttlAt}
+use Rattle.plan.specs.Layout.{isA6, countOf, recordAt, prefixAt, addressAt, ownerAt, targetAt, ttlAt}
 
 -- the record at i is an A6 record of the name x
 unfoldable pub ownsA6 : List ℕ → ℕ → List ℕ → Bool
-unfolding isA6 recordAt nameIn ownerSlot sameName
 ownsA6 t i x = isA6 (recordAt t i) && sameName (ownerAt t i) x
 
 -- the positions are those of the table; a DNAME is owned by no name

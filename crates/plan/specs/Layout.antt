@@ -1,7 +1,7 @@
--- The plan table (01, the section of that name; T-01): its layout, in this place alone. Assumes nothing.
-use Prim.Native.Nat.{ℕ, zero, suc, _+_, _-_, _*_, _/_, _%_}
+-- The plan table (01, the section of that name; T-01): its layout, in this place alone.
+use Prim.Native.Nat.{ℕ, _+_, _-_, _*_, _/_, _%_}
 use mathlib.Core.Bool.{Bool}
-use mathlib.Core.List.{List, [], _∷_, _++_}
+use mathlib.Core.List.{List, _∷_, _++_}
 use lib.Dec.{eqb}
 use lib.ListN.{length, getD, take, drop}
 use Rattle.octets.specs.Octets.{blank}
@@ -66,7 +66,6 @@ unfoldable pub targetSlot : List ℕ → List ℕ
 targetSlot r = take slotSize (drop targetPlace r)
 
 unfoldable pub ttlOf : List ℕ → ℕ
-unfolding valueOf
 ttlOf r = valueOf (take ttlSize (drop ttlPlace r))
 
 -- the octets of a slot that its length octet says are the name
@@ -75,26 +74,26 @@ nameIn s = take (getD s 0 0) (drop 1 s)
 
 -- the slot that holds a name: its length, the name, zeros
 unfoldable pub slotOf : List ℕ → List ℕ
-unfolding blank
 slotOf name = length name ∷ (name ++ blank (nameRoom - length name))
 
+-- an A6 record
 unfoldable pub isA6 : List ℕ → Bool
-unfolding typeOf
 isA6 r = eqb (typeOf r) a6
 
+-- a DNAME record
 unfoldable pub isDname : List ℕ → Bool
-unfolding typeOf
 isDname r = eqb (typeOf r) dname
 
+-- the name that owns the record
 abbrev pub ownerOf : List ℕ → List ℕ
 ownerOf r = nameIn (ownerSlot r)
 
+-- the name that the record leads to
 abbrev pub targetOf : List ℕ → List ℕ
 targetOf r = nameIn (targetSlot r)
 
 -- a record made of its fields
 unfoldable pub recordOf : ℕ → ℕ → List ℕ → List ℕ → List ℕ → ℕ → List ℕ
-unfolding octetsOf
 recordOf type prefix address owner target ttl = type / 256 ∷ type % 256 ∷ prefix ∷ 0 ∷ (address ++ owner ++ target ++ octetsOf ttlSize ttl)
 
 -- how many records a table has, and the one at an index
@@ -105,9 +104,6 @@ unfoldable pub recordAt : List ℕ → ℕ → List ℕ
 recordAt t i = take recordSize (drop (i * recordSize) t)
 
 -- the fields of the record at an index
-abbrev pub typeAt : List ℕ → ℕ → ℕ
-typeAt t i = typeOf (recordAt t i)
-
 abbrev pub prefixAt : List ℕ → ℕ → ℕ
 prefixAt t i = prefixOf (recordAt t i)
 
@@ -122,13 +118,3 @@ targetAt t i = targetOf (recordAt t i)
 
 abbrev pub ttlAt : List ℕ → ℕ → ℕ
 ttlAt t i = ttlOf (recordAt t i)
-
--- the first n records of a table
-unfoldable pub firstRecords : ℕ → List ℕ → List (List ℕ)
-firstRecords zero t = []
-firstRecords (suc n) t = take recordSize t ∷ firstRecords n (drop recordSize t)
-
--- a table as the list of its records; `flat` of records is the table that they make
-unfoldable pub recordsOf : List ℕ → List (List ℕ)
-unfolding countOf firstRecords
-recordsOf t = firstRecords (countOf t) t

@@ -1,4 +1,5 @@
 pub mod Layout
+pub mod Records
 pub mod First
 pub mod Check
 pub mod Good

@@ -1,4 +1,5 @@
--- Marks of slots: a short number that slots of the same name share, looked at before names are compared. Assumes nothing.
+-- Marks of slots: a short number that slots of the same name share, looked at before names are compared.
+-- The code's own: nothing that a reader must believe.
 use Prim.Native.Nat.{ℕ, zero, suc, _+_, _*_, _/_, _%_, _<_}
 use mathlib.Core.Path.{_≡_}
 use mathlib.Core.Bool.{Bool, true, false, _&&_, _||_}

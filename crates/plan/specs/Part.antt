@@ -1,4 +1,4 @@
--- The part of a lent table that a record's owner takes (01, The plan table). Assumes nothing.
+-- The part of a lent table that a record's owner takes (01, The plan table).
 use Prim.Native.Nat.{ℕ, _+_, _*_}
 use mathlib.Core.Path.{_≡_}
 use mathlib.Core.Bool.{true, false, _&&_}
@@ -6,7 +6,7 @@ use mathlib.Core.List.{List}
 use lib.Dec.{ltb, eqb}
 use lib.ListN.{length, take, drop}
 use denote.Ref.{RefT, ptr, now}
-use Rattle.plan.specs.Layout.{recordSize, ownerPlace, nameIn, ownerSlot, countOf, recordAt, ownerAt}
+use Rattle.plan.specs.Layout.{recordSize, ownerPlace, countOf, ownerAt}
 use Rattle.plan.specs.Check.{checkOf}
 use Rattle.plan.specs.declared.Part.{Part}
 
@@ -18,13 +18,12 @@ pub record IsPart (whole part : RefT (List ℕ)) (p : Part) : Type 0 where
 
 -- where the owner of the record at an index stands: after the length octet of its slot
 unfoldable pub ownerWithin : List ℕ → ℕ → Part
-unfolding nameIn ownerSlot recordAt
 ownerWithin t i = record { offset = i * recordSize + (ownerPlace + 1); length = length (ownerAt t i) }
 
+-- the part of no octets
 abbrev pub emptyPart : Part
 emptyPart = record { offset = 0; length = 0 }
 
 -- what is shown: the owner at an index of a table in order; else the empty part
 unfoldable pub ownerPart : List ℕ → ℕ → Part
-unfolding checkOf countOf ownerWithin
 ownerPart t i = elim (eqb (checkOf t) 0 && ltb i (countOf t)) [ true ↦ ownerWithin t i | false ↦ emptyPart ]

@@ -1,12 +1,16 @@
 // What only our own layers call: the fields of a record by its index, and slots of names, compared and marked. Nobody else knows where a field stands.
 ghost use mathlib.Core.Path.{_≡_};
 ghost use mathlib.Core.Bool.{true};
-ghost use Prim.Native.Nat.{_+_, _^_, _≤_, _<_};
+ghost use Prim.Native.Nat.{_+_, _*_, _^_, _≤_, _<_};
+ghost use lib.Dec.{eqb};
 ghost use lib.ListN.{length, getD};
 ghost use lib.Seq.{paste};
 ghost use Rattle.names.specs.Standard.{sameName, inStandardForm};
-ghost use Rattle.plan.specs.Layout.{recordSize, nameRoom, slotSize, a6, typeOf, prefixOf, zeroOf, addressOf, ownerSlot, targetSlot, ttlOf, nameIn, slotOf, recordOf, countOf, recordAt, typeAt, prefixAt, addressAt, ownerAt, targetAt, ttlAt};
-ghost use Rattle.plan.specs.Check.{targetless};
+ghost use Rattle.chains.specs.Lists.{pick};
+ghost use Rattle.plan.specs.Layout.{recordSize, maxRecords, ownerPlace, nameRoom, slotSize, a6, typeOf, prefixOf, zeroOf, addressOf, ownerSlot, targetSlot, ttlOf, nameIn, slotOf, recordOf, countOf, recordAt, prefixAt, addressAt, ownerAt, targetAt, ttlAt};
+ghost use Rattle.plan.specs.Records.{typeAt};
+ghost use Rattle.names.specs.Name.{heldOf};
+ghost use Rattle.plan.specs.Check.{targetless, entryNumber};
 ghost use Rattle.plan.specs.Marks.{wordAt, pairAt, termAt, sumTo, sumOf, markOf, alikeOf};
 ghost use Rattle.plan.specs.Part.{ownerWithin};
 use crate::Part;
@@ -27,6 +31,35 @@ const TTL: usize = 532;
 pub const A6: u16 = 38;
 
 pub const DNAME: u16 = 39;
+
+// What a table and a given name earn together, and the name in standard form, none where it is malformed.
+pub struct Entered {
+    pub number: u8,
+    pub name: names::Name,
+}
+
+// The entry of each operation on a table and a given name: the check of the table, then the name.
+pub fn enter(table: &[u8], name: &[u8]) -> Entered
+    ensures { λ r. ⌜ (r .number ≡ entryNumber (now (table .entry)) (now (name .entry))) × (r .name ≡ heldOf (now (name .entry))) ⌝ }
+{
+    let held = names::hold(name);
+    let length = held.length;
+    let checked = crate::check(table);
+    let number = checked.number;
+    if number != 0 {
+        return Entered { number, name: held };
+    }
+    if length == 0 {
+        return Entered {
+            number: 4,
+            name: held,
+        };
+    }
+    Entered {
+        number: 0,
+        name: held,
+    }
+}
 
 // How many records a table has.
 pub fn count(table: &[u8]) -> usize
@@ -89,6 +122,17 @@ pub fn owner_part(table: &[u8], index: usize) -> Part
         offset: index * RECORD + (OWNER + 1),
         length: name.len(),
     }
+}
+
+// Where the owner of a record begins in its table, by the record's index and the owner's length; 0 for the empty part.
+pub fn owner_place(index: usize, length: usize) -> usize
+    requires { ⌜ ((length ≡ 0 → ⊥) → index < maxRecords) ⌝ }
+    ensures { λ r. ⌜ r ≡ pick (eqb length 0) 0 (index * recordSize + (ownerPlace + 1)) ⌝ }
+{
+    if length == 0 {
+        return 0;
+    }
+    index * RECORD + (OWNER + 1)
 }
 
 // Its target, as a part of the table; no octets where it has none.
@@ -154,7 +198,7 @@ pub fn ttl_of(row: &[u8]) -> u32
     requires { ⌜ length (now row) ≡ recordSize ⌝ }
     ensures { λ r. ⌜ r ≡ ttlOf (now (row .entry)) ⌝ }
 {
-    octets::numbers::quarter(row, TTL) as u32
+    octets::inside::quarter(row, TTL) as u32
 }
 
 // Whether a record leads to no name: an A6 record with prefix length 0.
@@ -243,7 +287,7 @@ pub fn same(a: &[u8], b: &[u8]) -> bool
     if alike(a, b) {
         return true;
     }
-    names::equal(name_in(a), name_in(b))
+    names::inside::equal(name_in(a), name_in(b))
 }
 
 // Whether the first 32 octets of two slots are the same and hold their names whole: most names that are the same are told by this alone.

@@ -56,7 +56,7 @@ pub fn owner(table: &[u8], index: usize) -> &[u8]
 }
 
 // Where that part stands: 0 and 0 for the empty one.
-pub fn owner_part(table: &[u8], index: usize) -> Part
+fn owner_part(table: &[u8], index: usize) -> Part
     ensures { λ r. ⌜ r ≡ ownerPart (now (table .entry)) index ⌝ }
 {
     let answer = check(table);
@@ -278,7 +278,7 @@ fn is_twin(table: &[u8], i: usize, j: usize, marks: &[u16], m: u16) -> bool
     if inside::kind(table, i) != inside::DNAME {
         return false;
     }
-    names::equal(inside::owner(table, i), inside::owner(table, j))
+    names::inside::equal(inside::owner(table, i), inside::owner(table, j))
 }
 
 pub mod inside;

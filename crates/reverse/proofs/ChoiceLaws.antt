@@ -1,4 +1,4 @@
--- The rule that is due, found record by record. Assumes nothing.
+-- The rule that is due, found record by record.
 use Prim.Native.Nat.{ℕ, zero, suc, _+_, _-_, _≤_, _<_}
 use mathlib.Core.Path.{_≡_, refl, ap, _∙_, sym}
 use mathlib.Core.Bool.{Bool, true, false}
@@ -14,8 +14,9 @@ use Rattle.plan.specs.Layout.{isDname, countOf, recordAt, ownerAt, targetAt}
 use Rattle.rewriting.specs.Rewrite.{belowOf, sameUnits}
 use Rattle.reverse.specs.Walk.{Rule, Due, none, due, better, dueFrom, dueOf}
 use Rattle.rewriting.specs.Spots.{unitsAt}
-use Rattle.reverse.specs.Answers.{ruleOf, rulesTo}
-use Rattle.reverse.specs.Choice.{dueFor, best, betterOf, Chosen}
+use Rattle.chains.specs.Lists.{upTo}
+use Rattle.reverse.specs.Answers.{ruleOf}
+use Rattle.reverse.specs.Choice.{rulesTo, dueFor, best, betterOf, Chosen}
 use Rattle.reverse.specs.declared.Best.{Best}
 use Rattle.reverse.proofs.TableLaws.{rules-dname, rules-other}
 
@@ -72,7 +73,7 @@ picked t (suc j) index (suc k) i = go (ltb (suc k) (suc j)) refl
 
 -- the loop
 pub chosen-start : (t name : List ℕ) → Chosen t name 0 (best 0 0)
-unfolding dueFor dueOf dueFrom rulesTo
+unfolding dueFor dueOf dueFrom upTo
 chosen-start t name = record { due = refl; listed = λ h. (let z : ⊥ = omega arith in absurd z); within = omega arith }
 
 module _ (t name : List ℕ) (i : ℕ) (b : Best) (c : Chosen t name i b) where

@@ -1,9 +1,9 @@
--- Demand 2 for reverse: the walk ends where the rewriting relation does, and is refused exactly when 01 says so. Assumes nothing.
+-- Demand 2 for reverse: the walk ends where the rewriting relation does, and is refused exactly when 01 says so.
 use Prim.Native.Nat.{ℕ, zero, suc, _+_, _-_}
 use mathlib.Core.Path.{_≡_, refl, ap, _∙_, sym}
 use mathlib.Core.Bool.{Bool, true, false}
 use mathlib.Core.List.{List}
-use mathlib.Core.Logic.{_⊎_, inl, inr, ⊎-elim}
+use mathlib.Core.Logic.{_⊎_, inl, inr, ⊎-elim, _↔_}
 use lib.ListN.{length}
 use native.Mathlib.Nat.{add-zero}
 use native.Mathlib.Omega.{arith}
@@ -12,13 +12,21 @@ use Rattle.plan.specs.Layout.{addressSize, nameRoom}
 use Rattle.plan.specs.Check.{InOrder}
 use Rattle.rewriting.specs.Rewrite.{rewriteOf, tooLarge}
 use Rattle.reverse.specs.Walk.{startOf, Rule, Due, none, due, dueOf, End, refused, ended, walkOf}
-use Rattle.reverse.specs.Relation.{Path, here, then, OneTarget, Settles, Exhausts, Outgrows, WalkIs}
+use Rattle.reverse.specs.Relation.{Path, here, then, Settles, Exhausts, Outgrows}
 use Rattle.reverse.specs.Answers.{rulesOf, endOf, answerFor, outFor, reverseAnswer, reverseOut}
+use Rattle.octets.specs.Answers.{answerBy, outBy}
 use Rattle.reverse.specs.Demand.{ReverseIs}
 use Rattle.reverse.proofs.TableLaws.{rules-one}
 use Rattle.reverse.proofs.ReplyLaws.{late}
 use Rattle.reverse.proofs.WalkLaws.{walk-ended, walk-out, walk-large, walk-on}
-use Rattle.reverse.proofs.RelationLaws.{due-none, due-some, settled-none, rewrites-due}
+use Rattle.reverse.proofs.RelationLaws.{OneTarget, due-none, due-some, settled-none, rewrites-due}
+
+-- of a walk from a name: its end is the relation's, 6 and 8 are given exactly when they are due, and no other number is
+pub record WalkIs (limit : ℕ) (rules : List Rule) (name : List Unit) : Type 0 where
+  pub ends : (last : List Unit) (n : ℕ) → walkOf limit 0 rules name ≡ ended last n ↔ Settles limit rules name last n
+  pub six : walkOf limit 0 rules name ≡ refused 6 ↔ Exhausts limit rules name
+  pub eight : walkOf limit 0 rules name ≡ refused 8 ↔ Outgrows limit rules name
+  pub other : (k : ℕ) → walkOf limit 0 rules name ≡ refused k → (k ≡ 6) ⊎ (k ≡ 8)
 
 -- what an end of the walk says, after `done` rewrites
 abbrev Ending : ℕ → ℕ → List Rule → List Unit → End → Type 0
@@ -108,28 +116,22 @@ module _ (t address : List ℕ) (limit : ℕ) (o : InOrder t) (l : length addres
   whole : (x : End) → walkOf limit 0 (rulesOf t) (startOf address) ≡ x → endOf t address limit nameRoom ≡ x
   whole x e = late t address limit nameRoom o l refl ∙ e
 
-  number : (x : End) → walkOf limit 0 (rulesOf t) (startOf address) ≡ x → reverseAnswer t address limit nameRoom .number ≡ answerFor x .number
-  unfolding reverseAnswer
-  number x e = ap (λ (y : End). answerFor y .number) (whole x e)
+  -- the answer and the output by the end of the walk
+  left : (x : End) → walkOf limit 0 (rulesOf t) (startOf address) ≡ x → (reverseAnswer t address limit nameRoom ≡ answerFor x) × (reverseOut t address limit nameRoom ≡ outFor x nameRoom)
+  left x e = (ap answerFor (whole x e), ap (λ (y : End). outFor y nameRoom) (whole x e))
 
-  -- a number that is given says how the walk ended
-  backwards : (k : ℕ) → reverseAnswer t address limit nameRoom .number ≡ suc k → walkOf limit 0 (rulesOf t) (startOf address) ≡ refused (suc k)
-  unfolding answerFor
-  backwards k h = go (walkOf limit 0 (rulesOf t) (startOf address)) refl
-    where
-      go : (x : End) → walkOf limit 0 (rulesOf t) (startOf address) ≡ x → walkOf limit 0 (rulesOf t) (startOf address) ≡ refused (suc k)
-      go (refused m) e = e ∙ ap refused (sym (number (refused m) e) ∙ h)
-      go (ended last n) e = let z : ⊥ = omega (arith, number (ended last n) e, h) in absurd z
-
-  pub reverse-is : ReverseIs t address limit
-  unfolding reverseAnswer reverseOut answerFor outFor
+  -- Theorem: on input in order the answer is where the rewriting relation ends, or 6 exactly when a rewrite is due with none left, or 8 exactly when
+  -- one that is too large comes within the limit
+  pub reverse-is : ReverseIs t address limit (reverseAnswer t address limit nameRoom) (reverseOut t address limit nameRoom)
+  unfolding answerBy outBy
   reverse-is = record {
-    done = λ last n s. let e = whole (ended last n) (walk .ends last n .1 s) in (ap answerFor e, ap (λ (x : End). outFor x nameRoom) e);
-    settles = (λ h. go (walkOf limit 0 (rulesOf t) (startOf address)) refl h, λ s. number (ended (s .0) (s .1)) (walk .ends (s .0) (s .1) .1 (s .2)));
-    six = (λ h. walk .six .0 (backwards 5 h), λ s. number (refused 6) (walk .six .1 s));
-    eight = (λ h. walk .eight .0 (backwards 7 h), λ s. number (refused 8) (walk .eight .1 s));
+    ways = go (walkOf limit 0 (rulesOf t) (startOf address)) refl;
+    done = λ last n s. left (ended last n) (walk .ends last n .1 s);
+    six = λ s. left (refused 6) (walk .six .1 s);
+    eight = λ s. left (refused 8) (walk .eight .1 s);
   }
     where
-      go : (x : End) → walkOf limit 0 (rulesOf t) (startOf address) ≡ x → reverseAnswer t address limit nameRoom .number ≡ 0 → (last : List Unit) × (n : ℕ) × Settles limit (rulesOf t) (startOf address) last n
-      go (refused m) e h = let n = number (refused m) e in ⊎-elim (λ q. let z : ⊥ = omega arith in absurd z) (λ q. let z : ⊥ = omega arith in absurd z) (walk .other m e)
-      go (ended last n) e h = (last, n, walk .ends last n .0 e)
+      go : (x : End) → walkOf limit 0 (rulesOf t) (startOf address) ≡ x
+          → ((last : List Unit) × (n : ℕ) × Settles limit (rulesOf t) (startOf address) last n) ⊎ (Exhausts limit (rulesOf t) (startOf address) ⊎ Outgrows limit (rulesOf t) (startOf address))
+      go (ended last n) e = inl (last, n, walk .ends last n .0 e)
+      go (refused k) e = inr (⊎-elim (λ h. inl (walk .six .0 (e ∙ ap refused h))) (λ h. inr (walk .eight .0 (e ∙ ap refused h))) (walk .other k e))

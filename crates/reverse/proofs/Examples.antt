@@ -1,10 +1,11 @@
--- The walk of RFC 2874 section 5.3, and the cases of 01 (Reverse names) that are easily got wrong, by computation. Assumes nothing.
+-- The walk of RFC 2874 section 5.3, and the cases of 01 (Reverse names) that are easily got wrong, by computation.
 use Prim.Native.Nat.{ℕ}
 use mathlib.Core.Path.{_≡_, refl}
 use mathlib.Core.List.{List, [], _∷_, _++_, map}
 use lib.ListN.{replicate}
 use Rattle.names.specs.Standard.{Unit, unitsOf, encode}
 use Rattle.reverse.specs.Walk.{startOf, Rule, End, refused, ended, walkOf}
+use Rattle.reverse.proofs.Computing.{walks-compute}
 
 -- a DNAME by its octets
 dname : List ℕ → List ℕ → Rule
@@ -21,12 +22,12 @@ shown (refused n) = record { number = n; name = []; rewrites = 0 }
 shown (ended us done) = record { number = 0; name = encode us; rewrites = done }
 
 walked : ℕ → List Rule → List Unit → Shown
-unfolding shown encode walkOf
+unfolding shown
 walked limit rules name = shown (walkOf limit 0 rules name)
 
 -- RFC 2874, 5.2
 records : List Rule
-unfolding dname unitsOf
+unfolding dname
 records =
     dname (65 ∷ 24 ∷ 35 ∷ 69 ∷ 0 ∷ 3 ∷ 73 ∷ 80 ∷ 54 ∷ 4 ∷ 65 ∷ 82 ∷ 80 ∷ 65 ∷ 0 ∷ []) (3 ∷ 73 ∷ 80 ∷ 54 ∷ 9 ∷ 65 ∷ 76 ∷ 80 ∷ 72 ∷ 65 ∷ 45 ∷ 84 ∷ 76 ∷ 65 ∷ 3 ∷ 79 ∷ 82 ∷ 71 ∷ 0 ∷ [])
     ∷ dname (65 ∷ 24 ∷ 38 ∷ 120 ∷ 0 ∷ 3 ∷ 73 ∷ 80 ∷ 54 ∷ 4 ∷ 65 ∷ 82 ∷ 80 ∷ 65 ∷ 0 ∷ []) (3 ∷ 73 ∷ 80 ∷ 54 ∷ 9 ∷ 66 ∷ 82 ∷ 65 ∷ 86 ∷ 79 ∷ 45 ∷ 84 ∷ 76 ∷ 65 ∷ 3 ∷ 79 ∷ 82 ∷ 71 ∷ 0 ∷ [])
@@ -51,11 +52,11 @@ last = 65 ∷ 64 ∷ 18 ∷ 52 ∷ 86 ∷ 120 ∷ 154 ∷ 188 ∷ 222 ∷ 240 �
 
 -- five rewrites, and 6 where the limit allows four
 rfc2874-walk : walked 5 records (startOf address) ≡ record { number = 0; name = last; rewrites = 5 }
-unfolding walked records startOf address last
+unfolding walks-compute walked records address last
 rfc2874-walk = refl
 
 rfc2874-limit : walked 4 records (startOf address) ≡ record { number = 6; name = []; rewrites = 0 }
-unfolding walked records startOf address
+unfolding walks-compute walked records address
 rfc2874-limit = refl
 
 record Case : Type 0 where
@@ -78,7 +79,7 @@ case : ℕ → List Rule → List ℕ → ℕ → List ℕ → ℕ → Case
 case limit records name number result rewrites = record { limit = limit; records = records; name = name; number = number; result = result; rewrites = rewrites }
 
 cases : List Case
-unfolding dname unitsOf case letters noughts
+unfolding dname case letters noughts
 cases =
     -- a cut inside a bit label: 101.a under 1.a keeps 01
     case 1 (dname (65 ∷ 1 ∷ 128 ∷ 1 ∷ 97 ∷ 0 ∷ []) (1 ∷ 98 ∷ 0 ∷ []) ∷ []) (65 ∷ 3 ∷ 160 ∷ 1 ∷ 97 ∷ 0 ∷ []) 0 (65 ∷ 2 ∷ 64 ∷ 1 ∷ 98 ∷ 0 ∷ []) 1
@@ -121,5 +122,5 @@ expected : Case → Shown
 expected c = record { number = c .number; name = c .result; rewrites = c .rewrites }
 
 walks : map given cases ≡ map expected cases
-unfolding given expected cases unitsOf
+unfolding walks-compute given expected cases
 walks = refl

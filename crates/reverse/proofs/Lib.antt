@@ -6,3 +6,4 @@ pub mod TableLaws
 pub mod ChoiceLaws
 pub mod StartLaws
 pub mod ReplyLaws
+pub mod Computing

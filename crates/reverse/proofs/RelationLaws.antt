@@ -1,4 +1,4 @@
--- The walk is the rewriting relation (01, Reverse names): where it ends, when it is refused, and that no two rules tie. Assumes nothing.
+-- The walk is the rewriting relation (01, Reverse names): where it ends, when it is refused, and that no two rules tie.
 use Prim.Native.Nat.{ℕ, zero, suc, _≤_, _<_}
 use mathlib.Core.Path.{_≡_, refl, ap, _∙_, sym}
 use mathlib.Core.Bool.{Bool, true, false}
@@ -10,12 +10,17 @@ use lib.Seq.{take-at, drop-at}
 use native.Mathlib.Omega.{arith}
 use borrow.Author.Tests.{ltb-true, ltb-false}
 use Rattle.names.specs.Standard.{Unit}
+use Rattle.chains.specs.Lists.{In}
 use Rattle.rewriting.specs.Rewrite.{Applies, belowOf, rewriteOf}
 use Rattle.reverse.specs.Walk.{Rule, Due, none, due, better, dueFrom, dueOf}
-use Rattle.reverse.specs.Relation.{In, Settled, Rewrites, OneTarget}
+use Rattle.reverse.specs.Relation.{Settled, Rewrites}
 use Rattle.rewriting.proofs.ApplyLaws.{applies-below, below-applies, below-none}
 
--- two rules that apply and have as many units in their owners have the same owner
+-- rules with one owner are one rule: two DNAMEs never share an owner (01, The plan table)
+abbrev pub OneTarget : List Rule → Type 0
+OneTarget rules = (r s : Rule) → In r rules → In s rules → r .owner ≡ s .owner → r ≡ s
+
+-- Theorem: two rules that apply and have as many units in their owners have the same owner
 pub no-tie : (o p name b c : List Unit) → Applies o name b → Applies p name c → length o ≡ length p → o ≡ p
 no-tie o p name b c f g e =
     let m = ap length (f .whole) ∙ length-append b o in

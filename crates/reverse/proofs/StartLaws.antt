@@ -1,4 +1,4 @@
--- The name that a walk starts from: its octets, and that it is in standard form. Assumes nothing.
+-- The name that a walk starts from: its octets, and that it is in standard form.
 use Prim.Native.Nat.{ℕ, _+_, _≤_}
 use mathlib.Core.Path.{_≡_, refl, ap, _∙_, sym}
 use mathlib.Core.Bool.{false}

@@ -1,4 +1,4 @@
--- A table in order: its names are in standard form, and its rules have owners of their own. Assumes nothing.
+-- A table in order: its names are in standard form, and its rules have owners of their own.
 use Prim.Native.Nat.{ℕ, zero, suc, _<_}
 use mathlib.Core.Path.{_≡_, refl, ap, _∙_, sym}
 use mathlib.Core.Bool.{Bool, true, false}
@@ -11,15 +11,18 @@ use Rattle.octets.specs.Octets.{Small}
 use Rattle.names.specs.Standard.{unitsOf, inStandardForm}
 use Rattle.names.proofs.RoundLaws.{units-same}
 use Rattle.names.proofs.StandardLaws.{same-same-name}
-use Rattle.plan.specs.Layout.{typeOf, ownerSlot, targetSlot, isA6, isDname, a6, dname, countOf, recordAt, typeAt, ownerAt, targetAt}
+use Rattle.plan.specs.Layout.{typeOf, ownerSlot, targetSlot, isA6, isDname, a6, dname, countOf, recordAt, ownerAt, targetAt}
+use Rattle.plan.specs.Records.{typeAt}
 use Rattle.plan.specs.Check.{targetless, InOrder}
 use Rattle.plan.proofs.LayoutLaws.{record-small}
 use Rattle.plan.proofs.RecordLaws.{owner-small, target-small}
 use Rattle.plan.proofs.SlotLaws.{name-small}
 use Rattle.plan.proofs.OrderLaws.{order-good, order-differ}
 use Rattle.reverse.specs.Walk.{Rule}
-use Rattle.reverse.specs.Relation.{In, OneTarget}
-use Rattle.reverse.specs.Answers.{ruleOf, rulesTo, rulesOf}
+use Rattle.chains.specs.Lists.{In, upTo}
+use Rattle.reverse.specs.Answers.{ruleOf, rulesOf}
+use Rattle.reverse.specs.Choice.{rulesTo}
+use Rattle.reverse.proofs.RelationLaws.{OneTarget}
 use Rattle.rewriting.specs.Spots.{Standing}
 use Rattle.rewriting.proofs.LinkLaws.{form-standing}
 
@@ -56,12 +59,12 @@ module _ (t : List ℕ) (o : InOrder t) (i : ℕ) (h : i < countOf t) where
 
 -- the rules, record by record
 pub rules-dname : (t : List ℕ) (i : ℕ) → isDname (recordAt t i) ≡ true → rulesTo t (suc i) ≡ rulesTo t i ++ (ruleOf (recordAt t i) ∷ [])
-unfolding rulesTo
-rules-dname t i d = rw (rulesTo, d)
+unfolding upTo
+rules-dname t i d = rw d
 
 pub rules-other : (t : List ℕ) (i : ℕ) → isDname (recordAt t i) ≡ false → rulesTo t (suc i) ≡ rulesTo t i
-unfolding rulesTo
-rules-other t i d = rw (rulesTo, d) (append-nil (rulesTo t i))
+unfolding upTo
+rules-other t i d = rw d (append-nil (rulesTo t i))
 
 in-append : (r : Rule) (rs qs : List Rule) → In r (rs ++ qs) → In r rs ⊎ In r qs
 in-append r [] qs i = inr i
@@ -76,7 +79,7 @@ record Source (t : List ℕ) (n : ℕ) (r : Rule) : Type 0 where
   is : r ≡ ruleOf (recordAt t index)
 
 rule-source : (t : List ℕ) (n : ℕ) (r : Rule) → In r (rulesTo t n) → Source t n r
-unfolding rulesTo
+unfolding upTo
 rule-source t zero r i = absurd i
 rule-source t (suc n) r i = go (isDname (recordAt t n)) refl (λ j. rule-source t n r j)
   where

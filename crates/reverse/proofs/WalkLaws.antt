@@ -1,4 +1,4 @@
--- The walk, one law for each way on. Assumes nothing.
+-- The walk, one law for each way on.
 use Prim.Native.Nat.{ℕ, zero, suc, _+_}
 use mathlib.Core.Path.{_≡_}
 use mathlib.Core.Bool.{true, false}

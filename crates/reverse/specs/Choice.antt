@@ -1,16 +1,21 @@
--- The rule that is due, found record by record: the code's own, nothing that a reader must believe. Assumes nothing.
+-- The rule that is due, found record by record: the code's own, nothing that a reader must believe.
 use Prim.Native.Nat.{ℕ, zero, suc, _≤_, _<_}
 use mathlib.Core.Path.{_≡_}
 use mathlib.Core.Bool.{true, false}
-use mathlib.Core.List.{List}
+use mathlib.Core.List.{List, [], _∷_}
 use lib.Dec.{ltb}
 use lib.ListN.{length}
 use Rattle.names.specs.Standard.{unitsOf}
 use Rattle.plan.specs.Layout.{targetAt, isDname, countOf, recordAt}
-use Rattle.reverse.specs.Walk.{Due, none, due, dueOf}
+use Rattle.reverse.specs.Walk.{Rule, Due, none, due, dueOf}
 use Rattle.rewriting.specs.Spots.{unitsAt}
-use Rattle.reverse.specs.Answers.{rulesTo}
+use Rattle.chains.specs.Lists.{pick, upTo}
+use Rattle.reverse.specs.Answers.{ruleOf}
 use Rattle.reverse.specs.declared.Best.{Best}
+
+-- the rules among the first n records of a table
+abbrev pub rulesTo : List ℕ → ℕ → List Rule
+rulesTo t n = upTo n (λ i. pick (isDname (recordAt t i)) (ruleOf (recordAt t i) ∷ []) [])
 
 -- the rewrite that a record and its units below stand for; none for no units
 unfoldable pub dueFor : List ℕ → ℕ → ℕ → Due

@@ -1,21 +1,23 @@
--- 01's second demand for reverse lookup, said of a call whose input earns none of 1 to 5. Assumes nothing.
+-- 01's second demand for reverse lookup, said of a call whose input earns none of 1 to 5.
 use Prim.Native.Nat.{ℕ, _-_}
 use mathlib.Core.Path.{_≡_}
 use mathlib.Core.List.{List, _++_}
-use mathlib.Core.Logic.{_↔_}
+use mathlib.Core.Logic.{_⊎_}
 use lib.ListN.{length}
 use Rattle.octets.specs.Octets.{blank}
-use Rattle.octets.specs.Answers.{answering}
+use Rattle.octets.specs.Answers.{answering, refusal}
+use Rattle.octets.specs.declared.Answer.{Answer}
 use Rattle.names.specs.Standard.{Unit, encode}
 use Rattle.plan.specs.Layout.{nameRoom}
 use Rattle.reverse.specs.Walk.{startOf}
 use Rattle.reverse.specs.Relation.{Settles, Exhausts, Outgrows}
-use Rattle.reverse.specs.Answers.{rulesOf, reverseAnswer, reverseOut}
+use Rattle.reverse.specs.Answers.{rulesOf}
 
--- the number is 0 exactly when the relation settles within the limit, and then the answer is where it settles; 6 and 8 are given exactly when they are due
-pub record ReverseIs (t address : List ℕ) (limit : ℕ) : Type 0 where
-  pub done : (last : List Unit) (n : ℕ) → Settles limit (rulesOf t) (startOf address) last n
-      → (reverseAnswer t address limit nameRoom ≡ answering (length (encode last)) n) × (reverseOut t address limit nameRoom ≡ encode last ++ blank (nameRoom - length (encode last)))
-  pub settles : reverseAnswer t address limit nameRoom .number ≡ 0 ↔ ((last : List Unit) × (n : ℕ) × Settles limit (rulesOf t) (startOf address) last n)
-  pub six : reverseAnswer t address limit nameRoom .number ≡ 6 ↔ Exhausts limit (rulesOf t) (startOf address)
-  pub eight : reverseAnswer t address limit nameRoom .number ≡ 8 ↔ Outgrows limit (rulesOf t) (startOf address)
+-- A reverse lookup of the address answers r and leaves `out`, of 255 octets. The rewriting settles within the limit, or a rewrite is due with none
+-- left, or one is due whose result is too large: one of the three holds, and each has an answer of its own, so that each number comes exactly when
+-- it is said. Where it settles: the length of the name, the rewrites, and the name with zeros after it; else 6 or 8, and zeros alone.
+pub record ReverseIs (t address : List ℕ) (limit : ℕ) (r : Answer) (out : List ℕ) : Type 0 where
+  pub ways : ((last : List Unit) × (n : ℕ) × Settles limit (rulesOf t) (startOf address) last n) ⊎ (Exhausts limit (rulesOf t) (startOf address) ⊎ Outgrows limit (rulesOf t) (startOf address))
+  pub done : (last : List Unit) (n : ℕ) → Settles limit (rulesOf t) (startOf address) last n → (r ≡ answering (length (encode last)) n) × (out ≡ encode last ++ blank (nameRoom - length (encode last)))
+  pub six : Exhausts limit (rulesOf t) (startOf address) → (r ≡ refusal 6) × (out ≡ blank nameRoom)
+  pub eight : Outgrows limit (rulesOf t) (startOf address) → (r ≡ refusal 8) × (out ≡ blank nameRoom)

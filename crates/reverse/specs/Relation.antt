@@ -1,18 +1,13 @@
--- The rewriting relation (01, Reverse names), said without computing. Assumes nothing.
+-- The rewriting relation (01, Reverse names), said without computing.
 use Prim.Native.Nat.{ℕ, suc, _≤_}
 use mathlib.Core.Path.{_≡_}
 use mathlib.Core.Bool.{true, false}
-use mathlib.Core.List.{List, [], _∷_, _++_}
-use mathlib.Core.Logic.{_⊎_, _↔_}
+use mathlib.Core.List.{List, _++_}
 use lib.ListN.{length}
 use Rattle.names.specs.Standard.{Unit}
+use Rattle.chains.specs.Lists.{In}
 use Rattle.rewriting.specs.Rewrite.{Applies, tooLarge}
-use Rattle.reverse.specs.Walk.{Rule, refused, ended, walkOf}
-
--- a rule is one of a list
-abbrev pub In : Rule → List Rule → Type 0
-In r [] = ⊥
-In r (s ∷ rules) = (r ≡ s) ⊎ In r rules
+use Rattle.reverse.specs.Walk.{Rule}
 
 -- no rule of the list applies to the name
 abbrev pub Settled : List Rule → List Unit → Type 0
@@ -31,10 +26,6 @@ pub record Rewrites (rules : List Rule) (name next : List Unit) : Type 0 where
 pub data Path : List Rule → List Unit → ℕ → List Unit → Type 0 where
   here : {rules : List Rule} {name : List Unit} → Path rules name 0 name
   then : {rules : List Rule} {name next last : List Unit} {n : ℕ} → Rewrites rules name next → tooLarge next ≡ false → Path rules next n last → Path rules name (suc n) last
-
--- rules with one owner are one rule: two DNAMEs never share an owner (01, The plan table)
-abbrev pub OneTarget : List Rule → Type 0
-OneTarget rules = (r s : Rule) → In r rules → In s rules → r .owner ≡ s .owner → r ≡ s
 
 -- a walk may end in three ways: settled after at most `limit` rewrites; due for a rewrite after `limit` of them; and due for one that is too large after fewer
 pub record Settles (limit : ℕ) (rules : List Rule) (name last : List Unit) (n : ℕ) : Type 0 where
@@ -56,10 +47,3 @@ pub record Outgrows (limit : ℕ) (rules : List Rule) (name : List Unit) : Type 
   pub due : Rewrites rules last next
   pub large : tooLarge next ≡ true
   pub within : suc n ≤ limit
-
--- 01's second demand for a walk from a name: its end is the relation's, 6 and 8 are given exactly when they are due, and no other number is
-pub record WalkIs (limit : ℕ) (rules : List Rule) (name : List Unit) : Type 0 where
-  pub ends : (last : List Unit) (n : ℕ) → walkOf limit 0 rules name ≡ ended last n ↔ Settles limit rules name last n
-  pub six : walkOf limit 0 rules name ≡ refused 6 ↔ Exhausts limit rules name
-  pub eight : walkOf limit 0 rules name ≡ refused 8 ↔ Outgrows limit rules name
-  pub other : (k : ℕ) → walkOf limit 0 rules name ≡ refused k → (k ≡ 6) ⊎ (k ≡ 8)

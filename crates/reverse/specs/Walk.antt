@@ -1,4 +1,4 @@
--- The walk of rewrites from the reverse name of an address (01, Reverse names). Assumes nothing.
+-- The walk of rewrites from the reverse name of an address (01, Reverse names).
 use Prim.Native.Nat.{ℕ, zero, suc, _+_}
 use mathlib.Core.Bool.{true, false}
 use mathlib.Core.List.{List, [], _∷_}
@@ -15,7 +15,6 @@ abbrev pub arpa : List ℕ
 arpa = 65 ∷ 82 ∷ 80 ∷ 65 ∷ []
 
 unfoldable pub startOf : List ℕ → List Unit
-unfolding before unpack
 startOf address = before (unpack 128 address) (label ip6 ∷ label arpa ∷ [])
 
 -- a DNAME record as a rule: the units of its owner and those of its target
@@ -34,13 +33,12 @@ better best zero target = best
 better none (suc k) target = due (suc k) target
 better (due j t) (suc k) target = elim (ltb (suc k) j) [ true ↦ due (suc k) target | false ↦ due j t ]
 
+-- the rewrite that is due by a list of rules: the best of them, found one after the other
 unfoldable pub dueFrom : Due → List Rule → List Unit → Due
-unfolding better belowOf
 dueFrom best [] name = best
 dueFrom best (r ∷ rs) name = dueFrom (better best (belowOf (r .owner) name) (r .target)) rs name
 
 unfoldable pub dueOf : List Rule → List Unit → Due
-unfolding dueFrom
 dueOf rules name = dueFrom none rules name
 
 -- where a walk ends: at a refusal by its number, or at a name after so many rewrites
@@ -50,12 +48,10 @@ pub data End : Type 0 where
 
 -- on to a rewritten name, unless it is too large
 unfoldable pub onward : (List Unit → End) → List Unit → End
-unfolding tooLarge
 onward go next = elim (tooLarge next) [ true ↦ refused 8 | false ↦ go next ]
 
 -- the walk, with `limit` rewrites left and `done` rewrites behind it: it ends where none is due; 6 for one that is due with none left, before 8 is judged
 unfoldable pub walkOf : ℕ → ℕ → List Rule → List Unit → End
-unfolding dueOf rewriteOf onward
 walkOf zero done rules name = elim (dueOf rules name) [ none ↦ ended name done | due k t ↦ refused 6 ]
 walkOf (suc limit) done rules name = elim (dueOf rules name) [
   | none ↦ ended name done

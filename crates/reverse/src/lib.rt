@@ -7,7 +7,7 @@ ghost use Rattle.names.specs.Standard.{encode};
 ghost use Rattle.plan.specs.Layout.{addressSize, nameRoom, countOf};
 ghost use Rattle.plan.specs.Check.{InOrder};
 ghost use Rattle.reverse.specs.Walk.{startOf, walkOf};
-ghost use Rattle.reverse.specs.Answers.{rulesOf, answerFor, outFor, reverseAnswer, reverseOut};
+ghost use Rattle.reverse.specs.Answers.{rulesOf, earlyNumber, answerFor, outFor, reverseAnswer, reverseOut};
 ghost use Rattle.rewriting.specs.Spots.{unitsAt, Standing};
 ghost use Rattle.reverse.specs.Choice.{betterOf, Chosen};
 
@@ -17,19 +17,30 @@ pub fn lookup(table: &[u8], address: &[u8], limit: u8, out: &mut [u8]) -> octets
     ensures { λ _. ⌜ now (out .exit) ≡ reverseOut (now (table .entry)) (now (address .entry)) limit (length (now (out .entry))) ⌝ }
 {
     octets::clear(out);
-    let answer = plan::check(table);
-    let number = answer.number;
+    let number = early(table, address, out.len());
     if number != 0 {
         return octets::refused(number);
     }
-    if address.len() != 16 {
-        return octets::refused(4);
-    }
-    if out.len() != 255 {
-        return octets::refused(5);
-    }
     let name = start(address);
     walk(table, &name, limit, 0, out)
+}
+
+// The number that is earned before the walk: the table's, 4 for the address, 5 for an output of `room` octets.
+fn early(table: &[u8], address: &[u8], room: usize) -> u8
+    ensures { λ r. ⌜ r ≡ earlyNumber (now (table .entry)) (now (address .entry)) room ⌝ }
+{
+    let checked = plan::check(table);
+    let number = checked.number;
+    if number != 0 {
+        return number;
+    }
+    if address.len() != 16 {
+        return 4;
+    }
+    if room != 255 {
+        return 5;
+    }
+    0
 }
 
 // The name that a walk starts from: one bit label with the bits of the address, then IP6 and ARPA.

@@ -1,4 +1,4 @@
--- What belowOf counts is what Applies says. Assumes nothing.
+-- What belowOf counts is what Applies says.
 use Prim.Native.Nat.{_-_, _≤_, _<_}
 use mathlib.Core.Path.{_≡_, refl, ap, _∙_, sym}
 use mathlib.Core.Bool.{Bool, true, false}

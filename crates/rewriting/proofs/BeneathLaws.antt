@@ -1,4 +1,4 @@
--- Laws of a name beneath an owner: what is left of the name where the owner would begin, and when it is the owner. Assumes nothing.
+-- Laws of a name beneath an owner: what is left of the name where the owner would begin, and when it is the owner.
 use Prim.Native.Nat.{ℕ, _+_, _-_, _≤_, _<_}
 use mathlib.Core.Path.{_≡_, refl, ap, _∙_, sym}
 use mathlib.Core.Bool.{Bool, true, false}
@@ -74,7 +74,8 @@ drop-before s us k e =
     ap (drop k) (before-front s [] us) ∙ drop-at (before s []) us k l
 
 -- a cut inside a bit label: its first bits, nearest the root, are left
-found-bits : (name : List ℕ) (j : ℕ) (r : Spot) → Found name j r → (r .left + 1 ≡ r .units → ⊥) → AtBits name (r .at) (r .units) × (r .end ≡ r .at + 2 + octetsFor (r .units)) × (getD name (r .at) 0 ≡ 65)
+found-bits : (name : List ℕ) (j : ℕ) (r : Spot) → Found name j r → (r .left + 1 ≡ r .units → ⊥)
+    → AtBits name (r .at) (r .units) × (r .end ≡ r .at + 2 + octetsFor (r .units)) × (getD name (r .at) 0 ≡ 65)
 found-bits name j r f e = go (eqb (getD name (r .at) 0) 65) refl
   where
     go : (t : Bool) → eqb (getD name (r .at) 0) 65 ≡ t → AtBits name (r .at) (r .units) × (r .end ≡ r .at + 2 + octetsFor (r .units)) × (getD name (r .at) 0 ≡ 65)
@@ -206,77 +207,96 @@ pub record Meeting (name owner : List ℕ) (n m : ℕ) (r : Spot) : Type 0 where
   pub small : Small name × Small owner
   pub counts : (n ≡ length (unitsAt name 0)) × (m ≡ length (unitsAt owner 0)) × (m < n)
 
--- places that a meeting knows to be within the name
-pub met-within : (name owner : List ℕ) (n m : ℕ) (r : Spot) → Meeting name owner n m r → (r .at < length name) × (r .end < length name) × (length name ≤ 255)
-met-within name owner n m r q = (begins-inside name (r .at) (q .found .begins), begins-inside name (r .end) (q .found .turned .begins), q .found .begins .short)
+-- how many units of the name are below the owner
+abbrev under : List ℕ → List ℕ → ℕ
+under name owner = belowOf (unitsAt owner 0) (unitsAt name 0)
 
 -- the answers
-module _ (name owner : List ℕ) (n m : ℕ) (r : Spot) (q : Meeting name owner n m r) where
-  abbrev under : ℕ
-  under = belowOf (unitsAt owner 0) (unitsAt name 0)
-
-  abbrev left : List Unit
-  left = drop (n - m - 1 + 1) (unitsAt name 0)
+module _ {name owner : List ℕ} {n m : ℕ} {r : Spot} (q : Meeting name owner n m r) where
+  -- places that lie within the name
+  pub met-within : (r .at < length name) × (r .end < length name) × (length name ≤ 255)
+  met-within = (begins-inside name (r .at) (q .found .begins), begins-inside name (r .end) (q .found .turned .begins), q .found .begins .short)
 
   place : n - m - 1 + 1 ≡ length (unitsAt name 0) - length (unitsAt owner 0)
   place = let c = q .counts in omega arith
 
-  yes : left ≡ unitsAt owner 0 → n - m ≡ under
-  yes d = let c = q .counts in let e : n - m ≡ length (unitsAt name 0) - length (unitsAt owner 0) = omega arith in e ∙ sym (below-yes (unitsAt owner 0) (unitsAt name 0) (rw (← place) d))
+  yes : drop (n - m - 1 + 1) (unitsAt name 0) ≡ unitsAt owner 0 → n - m ≡ under name owner
+  yes d =
+      let c = q .counts in
+      let e : n - m ≡ length (unitsAt name 0) - length (unitsAt owner 0) = omega arith in
+      e ∙ sym (below-yes (unitsAt owner 0) (unitsAt name 0) (rw (← place) d))
 
-  no : (left ≡ unitsAt owner 0 → ⊥) → 0 ≡ under
+  no : (drop (n - m - 1 + 1) (unitsAt name 0) ≡ unitsAt owner 0 → ⊥) → 0 ≡ under name owner
   no d = sym (below-no (unitsAt owner 0) (unitsAt name 0) (λ h. d (rw place h)))
 
   tail : Parted name (r .end)
   tail = found-parted name (n - m - 1) r (q .found) (q .standing .0)
 
-  pub edge-kept : r .left + 1 ≡ r .units → same (take (length name - r .end) (drop (r .end) name)) owner ≡ true → n - m ≡ under
+  pub edge-kept : r .left + 1 ≡ r .units → same (take (length name - r .end) (drop (r .end) name)) owner ≡ true → n - m ≡ under name owner
   edge-kept e h = yes (found-edge name (n - m - 1) r (q .found) e ∙ edge-yes name owner (r .end) 0 (rw (part-whole name (r .end)) at h))
 
-  pub edge-none : r .left + 1 ≡ r .units → same (take (length name - r .end) (drop (r .end) name)) owner ≡ false → 0 ≡ under
+  pub edge-none : r .left + 1 ≡ r .units → same (take (length name - r .end) (drop (r .end) name)) owner ≡ false → 0 ≡ under name owner
   edge-none e h =
       no (λ d. edge-no name owner (r .end) 0 (q .found .turned .begins) (q .standing .1 .begins) (q .small .0) (q .small .1) tail (q .standing .1 .parted)
       (rw (part-whole name (r .end)) at h) (sym (found-edge name (n - m - 1) r (q .found) e) ∙ d))
 
-  module _ (g : Front) (w : Fronted owner g) (i : r .left + 1 ≡ r .units → ⊥) where
-    -- what is left of the name is the owner: then the bits are the same, and the rest
-    matched : left ≡ unitsAt owner 0
-        → (unpack (r .units - (r .left + 1)) (drop (r .at + 2) name) ≡ unpack (g .bits) (drop (g .from) owner)) × (unitsAt name (r .end) ≡ unitsAt owner (g .end))
-    matched d =
-        run-same (unpack (r .units - (r .left + 1)) (drop (r .at + 2) name)) (unpack (g .bits) (drop (g .from) owner)) (unitsAt name (r .end)) (unitsAt owner (g .end))
-        (found-ends name (n - m - 1) r (q .found) (q .standing .0) i) (w .ends) (sym (found-inside name (n - m - 1) (r .units - (r .left + 1)) r (q .found) i refl) ∙ d ∙ w .parts)
+-- the owner's place is inside a label, and the bits that the owner begins with are known
+pub record Inside (name owner : List ℕ) (n m : ℕ) (r : Spot) (g : Front) : Type 0 where
+  pub met : Meeting name owner n m r
+  pub fronted : Fronted owner g
+  pub inner : r .left + 1 ≡ r .units → ⊥
 
-    -- the bits that are left of the label lie within the name
-    pub bits-within : r .at + 2 + octetsFor (r .units) ≤ length name
-    bits-within = found-bits name (n - m - 1) r (q .found) i .0 .inside
+module _ {name owner : List ℕ} {n m : ℕ} {r : Spot} {g : Front} (k : Inside name owner n m r g) where
+  -- the bits left of the label, and the owner's
+  abbrev mine : List ℕ
+  mine = unpack (r .units - (r .left + 1)) (drop (r .at + 2) name)
 
-    pub inside-count : (r .left + 1 + g .bits ≡ r .units → ⊥) → 0 ≡ under
-    inside-count h = no (λ d. h (go d))
-      where
-        go : left ≡ unitsAt owner 0 → r .left + 1 + g .bits ≡ r .units
-        go d =
-            let xs = drop (r .at + 2) name in
-            let l = length-drop (r .at + 2) name in
-            let b : length (unpack (r .units - (r .left + 1)) xs) ≡ r .units - (r .left + 1) = unpack-length (r .units - (r .left + 1)) xs (omega (arith, bits-within)) in
-            let e = ap length (matched d .0) in
-            omega (arith, w .sized, q .found .within, b, e)
+  abbrev theirs : List ℕ
+  theirs = unpack (g .bits) (drop (g .from) owner)
 
-    module _ (t : r .left + 1 + g .bits ≡ r .units) where
-      size : r .units - (r .left + 1) ≡ g .bits
-      size = omega arith
+  -- what is left of the name is the owner: then the bits are the same, and the rest
+  matched : drop (n - m - 1 + 1) (unitsAt name 0) ≡ unitsAt owner 0 → (mine ≡ theirs) × (unitsAt name (r .end) ≡ unitsAt owner (g .end))
+  matched d =
+      let f = k .met .found in
+      run-same mine theirs (unitsAt name (r .end)) (unitsAt owner (g .end)) (found-ends name (n - m - 1) r f (k .met .standing .0) (k .inner)) (k .fronted .ends)
+      (sym (found-inside name (n - m - 1) (r .units - (r .left + 1)) r f (k .inner) refl) ∙ d ∙ k .fronted .parts)
 
-      pub inside-bits : same (unpack (g .bits) (drop (r .at + 2) name)) (unpack (g .bits) (drop (g .from) owner)) ≡ false → 0 ≡ under
-      inside-bits h =
-          no (λ d. clash (sym (ap (λ (ys : List ℕ). same ys (unpack (g .bits) (drop (g .from) owner))) (ap (λ (k : ℕ). unpack k (drop (r .at + 2) name)) (sym size) ∙ matched d .0) ∙ same-refl (unpack (g .bits) (drop (g .from) owner))) ∙ h))
+  -- the bits that are left of the label lie within the name
+  pub bits-within : r .at + 2 + octetsFor (r .units) ≤ length name
+  bits-within = found-bits name (n - m - 1) r (k .met .found) (k .inner) .0 .inside
 
-      pub inside-rest : same (take (length name - r .end) (drop (r .end) name)) (take (length owner - g .end) (drop (g .end) owner)) ≡ false → 0 ≡ under
-      inside-rest h =
-          no (λ d. edge-no name owner (r .end) (g .end) (q .found .turned .begins) (w .begins) (q .small .0) (q .small .1) tail (w .parted)
-          (rw (part-whole name (r .end), part-whole owner (g .end)) at h) (matched d .1))
+  pub inside-count : (r .left + 1 + g .bits ≡ r .units → ⊥) → 0 ≡ under name owner
+  inside-count h = no (k .met) (λ d. h (go d))
+    where
+      go : drop (n - m - 1 + 1) (unitsAt name 0) ≡ unitsAt owner 0 → r .left + 1 + g .bits ≡ r .units
+      go d =
+          let l = length-drop (r .at + 2) name in
+          let b : length mine ≡ r .units - (r .left + 1) = unpack-length (r .units - (r .left + 1)) (drop (r .at + 2) name) (omega (arith, bits-within)) in
+          let e = ap length (matched d .0) in
+          omega (arith, k .fronted .sized, k .met .found .within, b, e)
 
-      pub inside-kept : same (unpack (g .bits) (drop (r .at + 2) name)) (unpack (g .bits) (drop (g .from) owner)) ≡ true
-          → same (take (length name - r .end) (drop (r .end) name)) (take (length owner - g .end) (drop (g .end) owner)) ≡ true → n - m ≡ under
-      inside-kept h k =
-          let v = edge-yes name owner (r .end) (g .end) (rw (part-whole name (r .end), part-whole owner (g .end)) at k) in
-          let b = same-eq (unpack (g .bits) (drop (r .at + 2) name)) (unpack (g .bits) (drop (g .from) owner)) h in
-          yes (found-inside name (n - m - 1) (g .bits) r (q .found) i (sym size) ∙ ap (λ (c : List ℕ). before c (unitsAt name (r .end))) b ∙ ap (before (unpack (g .bits) (drop (g .from) owner))) v ∙ sym (w .parts))
+  module _ (t : r .left + 1 + g .bits ≡ r .units) where
+    size : r .units - (r .left + 1) ≡ g .bits
+    size = omega arith
+
+    pub inside-bits : same (unpack (g .bits) (drop (r .at + 2) name)) theirs ≡ false → 0 ≡ under name owner
+    inside-bits h =
+        no (k .met) (λ d.
+        let e : unpack (g .bits) (drop (r .at + 2) name) ≡ theirs = ap (λ (i : ℕ). unpack i (drop (r .at + 2) name)) (sym size) ∙ matched d .0 in
+        clash (sym (ap (λ (ys : List ℕ). same ys theirs) e ∙ same-refl theirs) ∙ h))
+
+    pub inside-rest : same (take (length name - r .end) (drop (r .end) name)) (take (length owner - g .end) (drop (g .end) owner)) ≡ false → 0 ≡ under name owner
+    inside-rest h =
+        let q = k .met in
+        let w = k .fronted in
+        no q (λ d. edge-no name owner (r .end) (g .end) (q .found .turned .begins) (w .begins) (q .small .0) (q .small .1) (tail q) (w .parted)
+        (rw (part-whole name (r .end), part-whole owner (g .end)) at h) (matched d .1))
+
+    pub inside-kept : same (unpack (g .bits) (drop (r .at + 2) name)) theirs ≡ true
+        → same (take (length name - r .end) (drop (r .end) name)) (take (length owner - g .end) (drop (g .end) owner)) ≡ true → n - m ≡ under name owner
+    inside-kept h e =
+        let v = edge-yes name owner (r .end) (g .end) (rw (part-whole name (r .end), part-whole owner (g .end)) at e) in
+        let b = same-eq (unpack (g .bits) (drop (r .at + 2) name)) theirs h in
+        yes (k .met)
+        (found-inside name (n - m - 1) (g .bits) r (k .met .found) (k .inner) (sym size)
+        ∙ ap (λ (c : List ℕ). before c (unitsAt name (r .end))) b ∙ ap (before theirs) v ∙ sym (k .fronted .parts))

@@ -1,4 +1,4 @@
--- Laws of bits compared octet by octet, and of the first bits of a label. Assumes nothing.
+-- Laws of bits compared octet by octet, and of the first bits of a label.
 use Prim.Native.Nat.{ℕ, zero, suc, _+_, _-_, _*_, _/_, _%_, _^_, _≤_, _<_, min}
 use mathlib.Core.Path.{_≡_, refl, ap, _∙_, sym}
 use mathlib.Core.Bool.{Bool, true, false}
@@ -85,20 +85,20 @@ module _ (a b : List ℕ) (x y n : ℕ) (p : x < length a) (q : y < length b) wh
   abbrev v : ℕ
   v = getD b y 0
 
-  pub octet-on : 8 ≤ n → u ≡ v → same (unpack n (drop x a)) (unpack n (drop y b)) ≡ same (unpack (n - 8) (drop (x + 1) a)) (unpack (n - 8) (drop (y + 1) b))
+  octet-on : 8 ≤ n → u ≡ v → same (unpack n (drop x a)) (unpack n (drop y b)) ≡ same (unpack (n - 8) (drop (x + 1) a)) (unpack (n - 8) (drop (y + 1) b))
   octet-on h e =
       let c : x + 1 ≡ suc x = omega arith in
       let d : y + 1 ≡ suc y = omega arith in
       rw (c, d, drop-cons a x 0 p, drop-cons b y 0 q, unpack-octet n u (drop (suc x) a) h, unpack-octet n v (drop (suc y) b) h, e)
       (same-front (bitsOf 8 v) (unpack (n - 8) (drop (suc x) a)) (unpack (n - 8) (drop (suc y) b)))
 
-  pub octet-off : 8 ≤ n → u < 256 → v < 256 → (u ≡ v → ⊥) → same (unpack n (drop x a)) (unpack n (drop y b)) ≡ false
+  octet-off : 8 ≤ n → u < 256 → v < 256 → (u ≡ v → ⊥) → same (unpack n (drop x a)) (unpack n (drop y b)) ≡ false
   octet-off h s t e =
       rw (drop-cons a x 0 p, drop-cons b y 0 q, unpack-octet n u (drop (suc x) a) h, unpack-octet n v (drop (suc y) b) h)
       (same-differ (bitsOf 8 u) (bitsOf 8 v) (unpack (n - 8) (drop (suc x) a)) (unpack (n - 8) (drop (suc y) b))
       (bits-length 8 u ∙ sym (bits-length 8 v)) (bits-differ 8 u v (omega arith) (omega arith) (λ i. e (omega arith))))
 
-  pub octet-last : 0 < n → n < 8 → u < 256 → v < 256 → eqb (u / 2 ^ (8 - n)) (v / 2 ^ (8 - n)) ≡ same (unpack n (drop x a)) (unpack n (drop y b))
+  octet-last : 0 < n → n < 8 → u < 256 → v < 256 → eqb (u / 2 ^ (8 - n)) (v / 2 ^ (8 - n)) ≡ same (unpack n (drop x a)) (unpack n (drop y b))
   unfolding same
   octet-last g h s t = rw (drop-cons a x 0 p, drop-cons b y 0 q, unpack-last n u (drop (suc x) a) h, unpack-last n v (drop (suc y) b) h) (go (eqb (u / 2 ^ (8 - n)) (v / 2 ^ (8 - n))) refl)
     where
@@ -106,10 +106,45 @@ module _ (a b : List ℕ) (x y n : ℕ) (p : x < length a) (q : y < length b) wh
       small w l = let i : 8 ≡ n + (8 - n) = omega arith in let k : w < 2 ^ (n + (8 - n)) = rw (← i) (omega arith) in shr-lt n (8 - n) k
 
       go : (c : Bool) → eqb (u / 2 ^ (8 - n)) (v / 2 ^ (8 - n)) ≡ c → eqb (u / 2 ^ (8 - n)) (v / 2 ^ (8 - n)) ≡ same (bitsOf n (u / 2 ^ (8 - n)) ++ []) (bitsOf n (v / 2 ^ (8 - n)) ++ [])
-      go true e = e ∙ sym (ap (λ (i : ℕ). same (bitsOf n i ++ []) (bitsOf n (v / 2 ^ (8 - n)) ++ [])) (eqb-true (u / 2 ^ (8 - n)) (v / 2 ^ (8 - n)) e) ∙ same-refl (bitsOf n (v / 2 ^ (8 - n)) ++ []))
+      go true e = e ∙ sym (ap (λ (i : ℕ). same (bitsOf n i ++ []) (bitsOf n (v / 2 ^ (8 - n)) ++ [])) (eqb-true (u / 2 ^ (8 - n)) (v / 2 ^ (8 - n)) e)
+          ∙ same-refl (bitsOf n (v / 2 ^ (8 - n)) ++ []))
       go false e = e ∙ sym (same-differ (bitsOf n (u / 2 ^ (8 - n))) (bitsOf n (v / 2 ^ (8 - n))) [] [] (bits-length n (u / 2 ^ (8 - n)) ∙ sym (bits-length n (v / 2 ^ (8 - n))))
           (bits-differ n (u / 2 ^ (8 - n)) (v / 2 ^ (8 - n)) (small u s) (small v t) (eqb-false (u / 2 ^ (8 - n)) (v / 2 ^ (8 - n)) e)))
 
-pub none-same : (n : ℕ) (xs ys : List ℕ) → n ≡ 0 → same (unpack n xs) (unpack n ys) ≡ true
+none-same : (n : ℕ) (xs ys : List ℕ) → n ≡ 0 → same (unpack n xs) (unpack n ys) ≡ true
 unfolding same
 none-same n xs ys e = rw (e, unpack-zero xs, unpack-zero ys)
+
+-- on the way through n bits from i and from j on: the `left` bits from x and from y on are the same exactly when all are
+pub record Comparing (a b : List ℕ) (i j n x y left : ℕ) : Type 0 where
+  pub first : x + (left + 7) / 8 ≤ length a
+  pub second : y + (left + 7) / 8 ≤ length b
+  pub few : left ≤ 256
+  pub level : same (unpack left (drop x a)) (unpack left (drop y b)) ≡ same (unpack n (drop i a)) (unpack n (drop j b))
+
+module _ {a b : List ℕ} {i j n x y left : ℕ} (c : Comparing a b i j n x y left) where
+  -- the octets there, where there is a bit left
+  pub here : 0 < left → x < length a
+  here h = omega (arith, c .first)
+
+  pub there : 0 < left → y < length b
+  there h = omega (arith, c .second)
+
+  pub comparing-on : 8 ≤ left → getD a x 0 ≡ getD b y 0 → Comparing a b i j n (x + 1) (y + 1) (left - 8)
+  comparing-on h e =
+      record {
+        first = omega (arith, c .first);
+        second = omega (arith, c .second);
+        few = omega (arith, c .few);
+        level = sym (octet-on a b x y left (here (omega arith)) (there (omega arith)) h e) ∙ c .level;
+      }
+
+  pub comparing-off : 8 ≤ left → getD a x 0 < 256 → getD b y 0 < 256 → (getD a x 0 ≡ getD b y 0 → ⊥) → false ≡ same (unpack n (drop i a)) (unpack n (drop j b))
+  comparing-off h s t e = sym (octet-off a b x y left (here (omega arith)) (there (omega arith)) h s t e) ∙ c .level
+
+  pub comparing-none : left ≡ 0 → true ≡ same (unpack n (drop i a)) (unpack n (drop j b))
+  comparing-none e = sym (none-same left (drop x a) (drop y b) e) ∙ c .level
+
+  pub comparing-last : 0 < left → left < 8 → getD a x 0 < 256 → getD b y 0 < 256
+      → eqb (getD a x 0 / 2 ^ (8 - left)) (getD b y 0 / 2 ^ (8 - left)) ≡ same (unpack n (drop i a)) (unpack n (drop j b))
+  comparing-last g h s t = octet-last a b x y left (here g) (there g) g h s t ∙ c .level

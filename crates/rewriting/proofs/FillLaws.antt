@@ -1,4 +1,4 @@
--- An output as it is filled from the left: the octets so far, and zeros after them. Assumes nothing.
+-- An output as it is filled from the left: the octets so far, and zeros after them.
 use Prim.Native.Nat.{ℕ, _+_, _-_, _*_, _%_, _≤_, _<_}
 use mathlib.Core.Path.{_≡_, refl, ap, _∙_, sym}
 use mathlib.Core.List.{List, [], _∷_, _++_}
@@ -10,7 +10,7 @@ use Rattle.bits.specs.Bits.{octetsFor, packFrom}
 use Rattle.bits.specs.Packing.{Clean, Ready, Pushed, Flushed}
 use Rattle.bits.specs.declared.inside.Packer.{Packer}
 use Rattle.octets.proofs.OctetLaws.{length-blank}
-use Rattle.bits.proofs.PackLaws.{packer, clean-drop, clean-more}
+use Rattle.bits.proofs.PackLaws.{packer, clean-drop, clean-more, pushed-then}
 use Rattle.names.specs.Standard.{bitLabel}
 use Rattle.names.proofs.MergeLaws.{header, run-written}
 
@@ -48,18 +48,47 @@ filled-header out text to v w f h =
       within = h;
     }
 
-pub filled-ready : (out text : List ℕ) (to n : ℕ) → Filled out to text → to * 8 + n ≤ 2040 → Ready out (packer to 0 0) n
-filled-ready out text to n f h = let r = f .room in record { clean = f .clean; have = omega arith; value = omega arith; room = omega arith }
+-- a run on its way after a header with the octet c: the bits `bs` are packed, and `headed` is the output as it was with the header alone
+pub record Packed (text : List ℕ) (to c : ℕ) (out : List ℕ) (p : Packer) (bs : List ℕ) : Type 0 where
+  pub headed : List ℕ
+  pub filled : Filled headed (to + 2) (text ++ (65 ∷ c ∷ []))
+  pub pushed : Pushed headed out (packer (to + 2) 0 0) p bs
+  pub room : length out ≡ 255
 
--- a run was packed after its header
-pub filled-run : (mid new last text xs : List ℕ) (to t c : ℕ) (r : Packer) → Filled mid (to + 2) (text ++ (65 ∷ c ∷ [])) → c ≡ length xs % 256 → 0 < length xs
-    → Pushed mid new (packer (to + 2) 0 0) r xs → Flushed new last r t → length last ≡ 255 → t ≤ 255 → Filled last t (text ++ bitLabel xs)
-filled-run mid new last text xs to t c r f e h g d l k =
-    let w : take t last ≡ (text ++ (65 ∷ c ∷ [])) ++ packFrom 0 0 (xs ++ []) = d .whole ∙ g .adds [] ∙ ap (λ (ys : List ℕ). ys ++ packFrom 0 0 (xs ++ [])) (f .front) in
-    record { front = run-written xs text (take t last) c h e w; clean = d .clean; room = l; within = k }
+pub packed-none : (out text : List ℕ) (to c : ℕ) → Filled out (to + 2) (text ++ (65 ∷ c ∷ [])) → Packed text to c out (packer (to + 2) 0 0) []
+packed-none out text to c f =
+    record {
+      headed = out;
+      filled = f;
+      pushed = record { adds = λ rest. refl; clean = f .clean; have = omega arith; value = omega arith; place = omega arith };
+      room = f .room;
+    }
 
-pub run-place : (mid new last xs : List ℕ) (to t n : ℕ) (r : Packer) → Pushed mid new (packer (to + 2) 0 0) r xs → Flushed new last r t → length xs ≡ n → t ≡ to + 2 + octetsFor n
-run-place mid new last xs to t n r g d e = omega (arith, d .place, g .place, g .have)
+module _ {text : List ℕ} {to c : ℕ} {out : List ℕ} {p : Packer} {bs : List ℕ} (g : Packed text to c out p bs) where
+  -- there is room for n bits more
+  pub packed-ready : (n : ℕ) → (to + 2) * 8 + (length bs + n) ≤ 2040 → Ready out p n
+  packed-ready n h =
+      let d = g .pushed in
+      let r = g .room in
+      record { clean = d .clean; have = d .have; value = d .value; room = omega (arith, d .place) }
+
+  pub packed-on : (new : List ℕ) (q : Packer) (cs : List ℕ) → Pushed out new p q cs → length new ≡ length out → Packed text to c new q (bs ++ cs)
+  packed-on new q cs d l =
+      record {
+        headed = g .headed;
+        filled = g .filled;
+        pushed = pushed-then (g .headed) out new (packer (to + 2) 0 0) p q bs cs (g .pushed) d;
+        room = l ∙ g .room;
+      }
+
+  -- the run is whole: where it ends, and the label that it is
+  pub packed-place : (last : List ℕ) (t : ℕ) → Flushed out last p t → t ≡ to + 2 + octetsFor (length bs)
+  packed-place last t d = let b = g .pushed in omega (arith, d .place, b .place, b .have)
+
+  pub packed-done : (last : List ℕ) (t : ℕ) → Flushed out last p t → length last ≡ length out → c ≡ length bs % 256 → 0 < length bs → t ≤ 255 → Filled last t (text ++ bitLabel bs)
+  packed-done last t d l e h k =
+      let w : take t last ≡ (text ++ (65 ∷ c ∷ [])) ++ packFrom 0 0 (bs ++ []) = d .whole ∙ g .pushed .adds [] ∙ ap (λ (ys : List ℕ). ys ++ packFrom 0 0 (bs ++ [])) (g .filled .front) in
+      record { front = run-written bs text (take t last) c h e w; clean = d .clean; room = l ∙ g .room; within = k }
 
 pub filled-done : (out text : List ℕ) (to : ℕ) → Filled out to text → (to ≡ length text) × (out ≡ text ++ blank (255 - length text))
 filled-done out text to f =

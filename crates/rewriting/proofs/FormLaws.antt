@@ -1,4 +1,4 @@
--- Units that can be written are read back from their standard form. Assumes nothing.
+-- Units that can be written are read back from their standard form.
 use Prim.Native.Nat.{ℕ, zero, suc, _≤_, _<_}
 use mathlib.Core.Path.{_≡_, refl, ap, _∙_, sym}
 use mathlib.Core.Bool.{true, false}
@@ -8,7 +8,7 @@ use lib.ListN.{length, take}
 use native.Mathlib.Omega.{arith}
 use borrow.Author.Tests.{eq-eqb, ltb-false}
 use Rattle.octets.proofs.OctetLaws.{under-cons}
-use Rattle.bits.specs.Bits.{Bits}
+use Rattle.bits.specs.Packing.{Bits}
 use Rattle.labels.specs.Labels.{Label, ordinary, bits}
 use Rattle.labels.specs.Scan.{Reading, done, scanOf, apart, labelsOf, fills, wellFormed}
 use Rattle.names.specs.Standard.{Unit, label, bit, before, units, unitsOf, bitLabel, encodeFrom, encode}

@@ -1,4 +1,4 @@
--- When a rewrite gives too long a run: only the run between the kept units and the target can be too long. Assumes nothing.
+-- When a rewrite gives too long a run: only the run between the kept units and the target can be too long.
 use Prim.Native.Nat.{ℕ, suc, _≤_}
 use mathlib.Core.Path.{_≡_, refl, ap, _∙_}
 use mathlib.Core.Bool.{Bool, true, false, _||_}

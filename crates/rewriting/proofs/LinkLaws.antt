@@ -1,4 +1,4 @@
--- A name in standard form: its units as the code finds them are those of its definition. Assumes nothing.
+-- A name in standard form: its units as the code finds them are those of its definition.
 use Prim.Native.Nat.{ℕ}
 use mathlib.Core.Path.{_≡_, ap, _∙_, sym}
 use mathlib.Core.Bool.{true, false}

@@ -1,4 +1,4 @@
--- Units written after others: the run between them is one label, and what stands before it is unchanged. Assumes nothing.
+-- Units written after others: the run between them is one label, and what stands before it is unchanged.
 use Prim.Native.Nat.{ℕ}
 use mathlib.Core.Path.{_≡_, refl, ap, _∙_, sym}
 use mathlib.Core.List.{List, [], _∷_, _++_, append-assoc}

@@ -1,4 +1,4 @@
--- Laws of bits from the middle of a label on. Assumes nothing.
+-- Laws of bits from the middle of a label on.
 use Prim.Native.Nat.{ℕ, zero, suc, _+_, _-_, _*_, _/_, _%_, _^_, _≤_, _<_, min}
 use mathlib.Core.Path.{_≡_, ap, _∙_, sym}
 use mathlib.Core.List.{List, [], _∷_, _++_, append-nil, append-assoc}
@@ -11,6 +11,7 @@ use Rattle.bits.specs.Bits.{bitsOf, unpack}
 use Rattle.bits.specs.Packing.{Pushed}
 use Rattle.bits.specs.declared.inside.Packer.{Packer}
 use Rattle.bits.proofs.BitLaws.{bits-length, bits-split, unpack-zero, unpack-octet, unpack-length}
+use Rattle.bits.proofs.PackLaws.{pushed-then}
 use Rattle.bits.proofs.PackingLaws.{bits-mod}
 
 -- whole octets are passed over
@@ -55,16 +56,18 @@ module _ (name : List ℕ) (a skip n : ℕ) where
   reach : wanted ≡ drop (skip % 8) (unpack (skip % 8 + n) (drop (a + skip / 8) name))
   reach =
       let e : skip ≡ 8 * (skip / 8) + skip % 8 = omega arith in
-      ap (λ (k : ℕ). drop k (unpack (k + n) (drop a name))) e ∙ unpack-skip (skip / 8) (skip % 8) n (drop a name) ∙ ap (λ (ys : List ℕ). drop (skip % 8) (unpack (skip % 8 + n) ys)) (drop-drop (skip / 8) a name)
+      ap (λ (k : ℕ). drop k (unpack (k + n) (drop a name))) e ∙ unpack-skip (skip / 8) (skip % 8) n (drop a name)
+      ∙ ap (λ (ys : List ℕ). drop (skip % 8) (unpack (skip % 8 + n) ys)) (drop-drop (skip / 8) a name)
 
-  pub skip-even : skip % 8 ≡ 0 → unpack n (drop (a + skip / 8) name) ≡ wanted
+  skip-even : skip % 8 ≡ 0 → unpack n (drop (a + skip / 8) name) ≡ wanted
   skip-even e = let z : 0 + n ≡ n = omega arith in sym (reach ∙ ap (λ (k : ℕ). drop k (unpack (k + n) (drop (a + skip / 8) name))) e ∙ ap (λ (k : ℕ). unpack k (drop (a + skip / 8) name)) z)
 
-  pub skip-short : a + skip / 8 < length name → skip % 8 + n ≤ 8 → bitsOf n (getD name (a + skip / 8) 0 % 2 ^ (8 - skip % 8) / 2 ^ (8 - skip % 8 - n)) ≡ wanted
+  skip-short : a + skip / 8 < length name → skip % 8 + n ≤ 8 → bitsOf n (getD name (a + skip / 8) 0 % 2 ^ (8 - skip % 8) / 2 ^ (8 - skip % 8 - n)) ≡ wanted
   skip-short h k =
-      sym (reach ∙ ap (λ (ys : List ℕ). drop (skip % 8) (unpack (skip % 8 + n) ys)) (drop-cons name (a + skip / 8) 0 h) ∙ part-inside (skip % 8) n (getD name (a + skip / 8) 0) (drop (suc (a + skip / 8)) name) k)
+      sym (reach ∙ ap (λ (ys : List ℕ). drop (skip % 8) (unpack (skip % 8 + n) ys)) (drop-cons name (a + skip / 8) 0 h)
+      ∙ part-inside (skip % 8) n (getD name (a + skip / 8) 0) (drop (suc (a + skip / 8)) name) k)
 
-  pub skip-long : a + skip / 8 < length name → 8 < skip % 8 + n
+  skip-long : a + skip / 8 < length name → 8 < skip % 8 + n
       → bitsOf (8 - skip % 8) (getD name (a + skip / 8) 0 % 2 ^ (8 - skip % 8)) ++ unpack (n - (8 - skip % 8)) (drop (a + skip / 8 + 1) name) ≡ wanted
   skip-long h k =
       let s = skip % 8 in
@@ -77,10 +80,26 @@ module _ (name : List ℕ) (a skip n : ℕ) where
       let t : s + n - 8 ≡ n - m = omega arith in
       let g : i + 1 ≡ suc i = omega arith in
       let o : drop s (unpack (s + n) (v ∷ w)) ≡ bitsOf m v ++ b =
-      ap (drop s) (unpack-octet (s + n) v w (omega arith) ∙ ap (λ (q : ℕ). bitsOf 8 v ++ unpack q w) t ∙ ap (λ (q : ℕ). bitsOf q v ++ b) e ∙ ap (λ (ys : List ℕ). ys ++ b) (bits-split s m v) ∙ append-assoc (bitsOf s (v / 2 ^ m)) (bitsOf m v) b)
+      ap (drop s) (unpack-octet (s + n) v w (omega arith) ∙ ap (λ (q : ℕ). bitsOf 8 v ++ unpack q w) t ∙ ap (λ (q : ℕ). bitsOf q v ++ b) e
+      ∙ ap (λ (ys : List ℕ). ys ++ b) (bits-split s m v) ∙ append-assoc (bitsOf s (v / 2 ^ m)) (bitsOf m v) b)
       ∙ drop-at (bitsOf s (v / 2 ^ m)) (bitsOf m v ++ b) s (bits-length s (v / 2 ^ m)) in
       let f : bitsOf m (v % 2 ^ m) ≡ bitsOf m v = sym (bits-mod m m v (omega arith)) in
-      ap (λ (q : ℕ). bitsOf m (v % 2 ^ m) ++ unpack (n - m) (drop q name)) g ∙ ap (λ (ys : List ℕ). ys ++ b) f ∙ sym (reach ∙ ap (λ (ys : List ℕ). drop s (unpack (s + n) ys)) (drop-cons name i 0 h) ∙ o)
+      ap (λ (q : ℕ). bitsOf m (v % 2 ^ m) ++ unpack (n - m) (drop q name)) g ∙ ap (λ (ys : List ℕ). ys ++ b) f
+      ∙ sym (reach ∙ ap (λ (ys : List ℕ). drop s (unpack (s + n) ys)) (drop-cons name i 0 h) ∙ o)
+
+  -- and what is packed by each of them; x is the rest of the octet that is cut
+  module _ {old new : List ℕ} {p q : Packer} where
+    pub even-pushed : skip % 8 ≡ 0 → Pushed old new p q (unpack n (drop (a + skip / 8) name)) → Pushed old new p q wanted
+    even-pushed e h = rw (← skip-even e) h
+
+    pub short-pushed : (x : ℕ) → x ≡ getD name (a + skip / 8) 0 % 2 ^ (8 - skip % 8) → a + skip / 8 < length name → skip % 8 + n ≤ 8
+        → Pushed old new p q (bitsOf n (x / 2 ^ (8 - skip % 8 - n))) → Pushed old new p q wanted
+    short-pushed x e l k h = rw (← skip-short l k, ← e) h
+
+    pub long-pushed : {mid : List ℕ} {r : Packer} (x : ℕ) → x ≡ getD name (a + skip / 8) 0 % 2 ^ (8 - skip % 8) → a + skip / 8 < length name → 8 < skip % 8 + n
+        → Pushed old mid p r (bitsOf (8 - skip % 8) x) → Pushed mid new r q (unpack (n - (8 - skip % 8)) (drop (a + skip / 8 + 1) name)) → Pushed old new p q wanted
+    long-pushed {mid} {r} x e l k g h =
+        rw (← skip-long l k, ← e) (pushed-then old mid new p r q (bitsOf (8 - skip % 8) x) (unpack (n - (8 - skip % 8)) (drop (a + skip / 8 + 1) name)) g h)
 
 -- bits from the first on
 pub skip-none : (old new : List ℕ) (p q : Packer) (n : ℕ) (xs : List ℕ) → Pushed old new p q (drop 0 (unpack (0 + n) xs)) → Pushed old new p q (unpack n xs)

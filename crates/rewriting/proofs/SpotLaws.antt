@@ -1,5 +1,5 @@
--- Laws of labels passed and units found. Assumes nothing.
-use Prim.Native.Nat.{ℕ, _+_, _-_, _≤_, _<_}
+-- Laws of labels passed and units found.
+use Prim.Native.Nat.{ℕ, _+_, _-_, _*_, _≤_, _<_}
 use mathlib.Core.Path.{_≡_, refl, ap, _∙_, sym}
 use mathlib.Core.Bool.{Bool, true, false}
 use mathlib.Core.List.{List, [], _∷_, _++_, append-assoc}
@@ -12,9 +12,8 @@ use Rattle.names.specs.Standard.{Unit, label, bit, before, units}
 use Rattle.labels.specs.Scan.{apart}
 use Rattle.names.specs.Merge.{Begins, labelsAt}
 use Rattle.labels.proofs.LabelLaws.{first-at}
-use Rattle.names.proofs.MergeLaws.{at-bits, at-ordinary, labels-end}
+use Rattle.names.proofs.MergeLaws.{at-bits, at-ordinary, labels-end, begins-inside}
 use Rattle.rewriting.specs.Spots.{unitsAt, NoBit, lastRun, Turned, Parted, Found}
-use Rattle.rewriting.specs.declared.inside.Spot.{Spot}
 
 pub before-front : (b : List ℕ) (us vs : List Unit) → before b (us ++ vs) ≡ before b us ++ vs
 unfolding before
@@ -70,8 +69,28 @@ unfolding unitsAt units
 none-left name at e = ap units (labels-end (drop at name) (first-at name at ∙ e))
 
 -- a label passed: its units are no longer to come
-pub passed-length : (name : List ℕ) (at end size : ℕ) → Turned name at end size → length (unitsAt name at) ≡ size + length (unitsAt name end)
-passed-length name at end size t = ap length (t .parts) ∙ length-append (t .front) (unitsAt name end) ∙ ap (λ (n : ℕ). n + length (unitsAt name end)) (t .sized)
+passed-length : {name : List ℕ} {at end size : ℕ} → Turned name at end size → length (unitsAt name at) ≡ size + length (unitsAt name end)
+passed-length {name} {at} {end} {size} t = ap length (t .parts) ∙ length-append (t .front) (unitsAt name end) ∙ ap (λ (n : ℕ). n + length (unitsAt name end)) (t .sized)
+
+-- the end of a label lies within the name, and after the label's beginning
+pub passed-within : {name : List ℕ} {at end size : ℕ} → Turned name at end size → (at < end) × (end < length name) × (length name ≤ 255)
+passed-within {name} {at} {end} t = (t .on, begins-inside name end (t .begins), t .begins .short)
+
+-- on the way through a name: `sum` units are passed, and with those from `at` on they are all
+pub record Counting (name : List ℕ) (at sum : ℕ) : Type 0 where
+  pub begins : Begins name at
+  pub whole : sum + length (unitsAt name at) ≡ length (unitsAt name 0)
+  pub few : sum ≤ 8 * at
+
+pub counting-start : (name : List ℕ) → Begins name 0 → Counting name 0 0
+counting-start name b = record { begins = b; whole = zero-add (length (unitsAt name 0)); few = omega arith }
+
+module _ {name : List ℕ} {at sum : ℕ} (c : Counting name at sum) where
+  pub counting-on : {end size : ℕ} → Turned name at end size → Counting name end (sum + size)
+  counting-on t = record { begins = t .begins; whole = omega (arith, passed-length t, c .whole); few = omega (arith, t .few, c .few, t .on) }
+
+  pub counting-end : getD name at 0 ≡ 0 → sum ≡ length (unitsAt name 0)
+  counting-end e = let n = ap length (none-left name at e) in omega (arith, c .whole, n)
 
 apart-weak : (after : Bool) (ls : List Label) → apart after ls ≡ true → apart false ls ≡ true
 unfolding apart
@@ -112,7 +131,8 @@ after-bits name at end size t b p f g =
     let k = t .counted f in
     let a = at-bits name at size b f (k .0) in
     let d = at-bits name end (countFor (getD name (end + 1) 0)) (t .begins) g refl in
-    let h : apart false (bits (unpack size (drop (at + 2) name)) ∷ labelsAt name end) ≡ true = sym (ap (apart false) (a .labels ∙ ap (λ (i : ℕ). bits (unpack size (drop (at + 2) name)) ∷ labelsAt name i) (sym (k .1)))) ∙ p in
+    let h : apart false (bits (unpack size (drop (at + 2) name)) ∷ labelsAt name end) ≡ true =
+    sym (ap (apart false) (a .labels ∙ ap (λ (i : ℕ). bits (unpack size (drop (at + 2) name)) ∷ labelsAt name i) (sym (k .1)))) ∙ p in
     let z : _≡_ {A = Bool} false true = sym (ap (apart true) (d .labels)) ∙ h in
     let y : _≡_ {A = ℕ} 0 1 = cc in
     omega arith
@@ -123,22 +143,23 @@ last-append run [] vs = refl
 last-append run (label l ∷ us) vs = last-append [] us vs
 last-append run (bit b ∷ us) vs = last-append (b ∷ run) us vs
 
-pub seeking-on : (name : List ℕ) (j at left end size : ℕ) → Seeking name j at left → Turned name at end size → size ≤ left → Seeking name j end (left - size)
-seeking-on name j at left end size s t h =
-    let l = passed-length name at end size t in
-    let m = length-append (s .passed) (t .front) in
-    record {
-      begins = t .begins;
-      enough = omega (arith, s .enough);
-      passed = s .passed ++ t .front;
-      parts = s .parts ∙ ap (λ (us : List Unit). s .passed ++ us) (t .parts) ∙ sym (append-assoc (s .passed) (t .front) (unitsAt name end));
-      place = omega (arith, m, s .place, t .sized);
-      still = λ p. apart-next (t .first) (labelsAt name end) (sym (ap (apart false) (t .labels)) ∙ s .still p);
-      closed = λ p g. last-append [] (s .passed) (t .front) ∙ t .plain (λ f. after-bits name at end size t (s .begins) (s .still p) f g) (lastRun [] (s .passed));
-    }
+module _ {name : List ℕ} {j at left : ℕ} (s : Seeking name j at left) where
+  pub seeking-on : {end size : ℕ} → Turned name at end size → size ≤ left → Seeking name j end (left - size)
+  seeking-on {end} {size} t h =
+      let l = passed-length t in
+      let m = length-append (s .passed) (t .front) in
+      record {
+        begins = t .begins;
+        enough = omega (arith, s .enough);
+        passed = s .passed ++ t .front;
+        parts = s .parts ∙ ap (λ (us : List Unit). s .passed ++ us) (t .parts) ∙ sym (append-assoc (s .passed) (t .front) (unitsAt name end));
+        place = omega (arith, m, s .place, t .sized);
+        still = λ p. apart-next (t .first) (labelsAt name end) (sym (ap (apart false) (t .labels)) ∙ s .still p);
+        closed = λ p g. last-append [] (s .passed) (t .front) ∙ t .plain (λ f. after-bits name at end size t (s .begins) (s .still p) f g) (lastRun [] (s .passed));
+      }
 
-pub seeking-found : (name : List ℕ) (j : ℕ) (r : Spot) → Seeking name j (r .at) (r .left) → Turned name (r .at) (r .end) (r .units) → r .left < r .units → Found name j r
-seeking-found name j r s t h = record { begins = s .begins; turned = t; within = h; passed = s .passed; parts = s .parts; place = s .place; still = s .still; closed = s .closed }
+  pub seeking-found : (end size : ℕ) → Turned name at end size → left < size → Found name j (record { at = at; left = left; end = end; units = size })
+  seeking-found end size t h = record { begins = s .begins; turned = t; within = h; passed = s .passed; parts = s .parts; place = s .place; still = s .still; closed = s .closed }
 
-pub seeking-never : (name : List ℕ) (j at left : ℕ) → Seeking name j at left → getD name at 0 ≡ 0 → ⊥
-seeking-never name j at left s e = let n = ap length (none-left name at e) in omega (arith, s .enough, n)
+  pub seeking-never : getD name at 0 ≡ 0 → ⊥
+  seeking-never e = let n = ap length (none-left name at e) in omega (arith, s .enough, n)

@@ -1,4 +1,4 @@
--- One rewrite of a name by a DNAME, on units (01, Reverse names). Assumes nothing.
+-- One rewrite of a name by a DNAME, on units (01, Reverse names).
 use Prim.Native.Nat.{ℕ, suc, _-_, _<_}
 use mathlib.Core.Path.{_≡_}
 use mathlib.Core.Bool.{Bool, true, false, _||_}
@@ -15,14 +15,12 @@ pub record Applies (owner name below : List Unit) : Type 0 where
 
 -- equal units: a bit is never an ordinary label
 unfoldable pub sameUnit : Unit → Unit → Bool
-unfolding same
 sameUnit (label l) (label m) = same l m
 sameUnit (label l) (bit c) = false
 sameUnit (bit b) (label m) = false
 sameUnit (bit b) (bit c) = eqb b c
 
 unfoldable pub sameUnits : List Unit → List Unit → Bool
-unfolding sameUnit
 sameUnits [] [] = true
 sameUnits [] (v ∷ vs) = false
 sameUnits (u ∷ us) [] = false
@@ -30,7 +28,6 @@ sameUnits (u ∷ us) (v ∷ vs) = elim (sameUnit u v) [ true ↦ sameUnits us vs
 
 -- how many units of the name are below the owner, counted: 0 where the rule does not apply
 unfoldable pub belowOf : List Unit → List Unit → ℕ
-unfolding sameUnits
 belowOf owner name = elim (sameUnits (drop (length name - length owner) name) owner) [ true ↦ length name - length owner | false ↦ 0 ]
 
 -- what a rewrite makes of a name: its first units, as many as are below the owner, in their order, and then the units of the target
@@ -45,5 +42,4 @@ longRun run (bit b ∷ us) = longRun (suc run) us
 
 -- 01, What comes back, 8: a run is too long, or the standard form has more than 255 octets
 unfoldable pub tooLarge : List Unit → Bool
-unfolding longRun encode
 tooLarge us = longRun 0 us || ltb 255 (length (encode us))

@@ -1,4 +1,4 @@
--- What the functions that rewrite a name answer and write: the code's own, nothing that a reader must believe. Assumes nothing.
+-- What the functions that rewrite a name answer and write: the code's own, nothing that a reader must believe.
 use Prim.Native.Nat.{ℕ, _-_}
 use mathlib.Core.Bool.{Bool, true, false, _||_}
 use mathlib.Core.List.{List, _++_}

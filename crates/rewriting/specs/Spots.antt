@@ -1,4 +1,4 @@
--- Labels passed and units found in a name, for the contracts of the functions that do it: the code's own, nothing that a reader must believe. Assumes nothing.
+-- Labels passed and units found in a name, for the contracts of the functions that do it: the code's own, nothing that a reader must believe.
 use Prim.Native.Nat.{ℕ, _+_, _-_, _*_, _≤_, _<_}
 use mathlib.Core.Path.{_≡_}
 use mathlib.Core.Bool.{true, false}

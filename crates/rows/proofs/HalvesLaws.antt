@@ -1,4 +1,4 @@
--- Addresses in two halves: they are the octets that were read, their order is that of the numbers, and joining them is joining addresses. Assumes nothing.
+-- Addresses in two halves: they are the octets that were read, their order is that of the numbers, and joining them is joining addresses.
 use Prim.Native.Nat.{ℕ, zero, suc, _+_, _-_, _*_, _/_, _%_, _^_, _≤_, _<_}
 use mathlib.Core.Path.{_≡_, refl, sym, ap, _∙_}
 use mathlib.Core.Bool.{Bool, true, false}
@@ -12,7 +12,8 @@ use lib.Pow.{pow-pos, pow-add, high, low, shr-lt}
 use lib.Seq.{take-at, drop-at, take-append-add, drop-append-add, take-add, drop-drop}
 use borrow.Author.Tests.{eqb-true, eqb-false}
 use Rattle.octets.specs.Octets.{Small}
-use Rattle.bits.specs.Bits.{Bits, bitsOf, packFrom, pack}
+use Rattle.bits.specs.Bits.{bitsOf, packFrom, pack}
+use Rattle.bits.specs.Packing.{Bits}
 use Rattle.octets.proofs.BoolLaws.{refuted}
 use Rattle.octets.proofs.OctetLaws.{small-take, small-drop}
 use Rattle.bits.proofs.BitLaws.{bits-length, bits-split, pack-full}

@@ -1,4 +1,4 @@
--- What is kept after some chains: the addresses that they spell, ascending and each once, or too many of them for the room. Assumes nothing.
+-- What is kept after some chains: the addresses that they spell, ascending and each once, or too many of them for the room.
 use Prim.Native.Nat.{ℕ, zero, suc, _+_, _-_, _*_, _/_, _≤_, _<_}
 use mathlib.Core.Path.{_≡_, refl, sym, ap, subst, _∙_}
 use mathlib.Core.Logic.{inl, inr, ⊎-elim}
@@ -10,7 +10,8 @@ use lib.ListN.{length, getD, take, drop, length-append, length-take, length-drop
 use lib.Seq.{take-at, drop-at, drop-append-add}
 use Rattle.octets.proofs.FlatLaws.{each-drop, flat-length, flat-append, flat-take, flat-drop, flat-at}
 use Rattle.chains.proofs.ListLaws.{in-at}
-use Rattle.octets.specs.Octets.{blank, flat, Each}
+use Rattle.octets.specs.Octets.{blank, flat}
+use Rattle.octets.specs.Each.{Each}
 use Rattle.octets.proofs.BoolLaws.{clash, refuted}
 use Rattle.octets.proofs.OctetLaws.{length-blank}
 use Rattle.address.specs.declared.Order.{Order}

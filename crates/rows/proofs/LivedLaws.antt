@@ -1,4 +1,4 @@
--- The lifetimes beside the rows: those of the addresses kept, the least of all that came with each. Assumes nothing.
+-- The lifetimes beside the rows: those of the addresses kept, the least of all that came with each.
 use Prim.Native.Nat.{ℕ, zero, suc, _+_, _-_, _*_, _≤_, _<_, min}
 use mathlib.Core.Path.{_≡_, refl, sym, ap, subst, _∙_}
 use mathlib.Core.Logic.{inl, inr, ⊎-elim}

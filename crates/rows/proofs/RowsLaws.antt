@@ -1,4 +1,4 @@
--- Laws of the rows while an address is sought and put in its place with its lifetime. Assumes nothing.
+-- Laws of the rows while an address is sought and put in its place with its lifetime.
 use Prim.Native.Nat.{ℕ, zero, suc, _+_, _-_, _*_, _/_, _≤_, _<_, min}
 use mathlib.Core.Path.{_≡_, refl, sym, ap, subst, _∙_}
 use mathlib.Core.Logic.{⊎-elim}

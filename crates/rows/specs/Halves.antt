@@ -1,4 +1,4 @@
--- An address as two numbers of 64 bits, as a search carries it. Assumes nothing.
+-- An address as two numbers of 64 bits, as a search carries it. The code's own: nothing that a reader must believe.
 use Prim.Native.Nat.{ℕ}
 use mathlib.Core.List.{List, _++_}
 use Rattle.octets.specs.Numbers.{octetsOf}

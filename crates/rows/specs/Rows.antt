@@ -1,4 +1,5 @@
--- The output while a search runs: rows of sixteen octets, ascending, each address once, and beside each its lifetime so far. Assumes nothing.
+-- The output while a search runs: rows of sixteen octets, ascending, each address once, and beside each its lifetime so far.
+-- The code's own: nothing that a reader must believe.
 use Prim.Native.Nat.{ℕ, zero, suc, _+_, _-_, _*_, _/_, _≤_, _<_, min}
 use mathlib.Core.Path.{_≡_}
 use mathlib.Core.Logic.{_⊎_}
@@ -6,7 +7,8 @@ use mathlib.Core.Bool.{Bool, true, false, _&&_}
 use mathlib.Core.List.{List, [], _∷_, _++_, map}
 use lib.Dec.{leb, ltb, eqb}
 use lib.ListN.{length, getD, set, take, drop}
-use Rattle.octets.specs.Octets.{blank, same, flat, Each}
+use Rattle.octets.specs.Octets.{blank, same, flat}
+use Rattle.octets.specs.Each.{Each}
 use Rattle.address.specs.declared.Order.{Order}
 use Rattle.address.specs.declared.Order.the-variants.{Before, Same, After}
 use Rattle.address.specs.Order.{orderOf}

@@ -21,14 +21,14 @@ fn stands(out: &[u8], at: usize, high: u64, low: u64) -> Order
     requires { ⌜ at + 16 ≤ length (now out) ⌝ }
     ensures { λ r. ⌜ r ≡ orderOf (take 16 (drop at (now (out .entry)))) (addressOf high low) ⌝ }
 {
-    let h = octets::numbers::half(out, at);
+    let h = octets::inside::half(out, at);
     if h < high {
         return Order::Before;
     }
     if high < h {
         return Order::After;
     }
-    let l = octets::numbers::half(out, at + 8);
+    let l = octets::inside::half(out, at + 8);
     if l < low {
         return Order::Before;
     }
@@ -43,10 +43,10 @@ fn is_at(out: &[u8], at: usize, high: u64, low: u64) -> bool
     requires { ⌜ at + 16 ≤ length (now out) ⌝ }
     ensures { λ r. ⌜ r ≡ isSame (orderOf (take 16 (drop at (now (out .entry)))) (addressOf high low)) ⌝ }
 {
-    if octets::numbers::half(out, at) != high {
+    if octets::inside::half(out, at) != high {
         return false;
     }
-    octets::numbers::half(out, at + 8) == low
+    octets::inside::half(out, at + 8) == low
 }
 
 // Where an address belongs among the rows, of which there are `count`.
@@ -89,8 +89,8 @@ fn put(out: &mut [u8], k: usize, c: usize, high: u64, low: u64)
     ensures { λ _. ⌜ now (out .exit) ≡ putAt 16 k c (addressOf high low) (now (out .entry)) ⌝ }
 {
     shift(out, k, c);
-    octets::numbers::write(out, k, high);
-    octets::numbers::write(out, k + 8, low);
+    octets::inside::write(out, k, high);
+    octets::inside::write(out, k + 8, low);
 }
 
 // Puts a lifetime at k, and moves what stands from k up to c one further.

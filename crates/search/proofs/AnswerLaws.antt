@@ -1,22 +1,26 @@
--- From the state that a search leaves to the answer: how many chains were left to count, what is kept against the room. Assumes nothing.
+-- From the state that a search leaves to the answer: how many chains were left to count, what is kept against the room.
 use Prim.Native.Nat.{ℕ, suc, _+_, _-_, _*_, _/_, _%_, _≤_, _<_, min}
 use mathlib.Core.Path.{_≡_, refl, sym, ap, subst, _∙_}
 use mathlib.Core.Logic.{inl, inr, ⊎-elim}
 use mathlib.Core.Bool.{Bool, true, false, _&&_}
-use mathlib.Core.List.{List, [], _∷_, _++_}
+use mathlib.Core.List.{List, [], _∷_, _++_, map}
 use native.Mathlib.Decide.{decLt}
 use native.Mathlib.Omega.{arith}
 use lib.Dec.{eqb}
-use lib.ListN.{length, replicate}
+use lib.ListN.{length, replicate, length-map}
 use borrow.Author.Tests.{lt-ltb, le-ltb, eqb-true}
 use Rattle.octets.specs.Octets.{blank, same, flat}
-use Rattle.octets.specs.Answers.{answering, refusal}
+use Rattle.octets.specs.Answers.{answering}
+use Rattle.octets.proofs.AnswerLaws.{done-answer, done-out}
+use Rattle.octets.proofs.FlatLaws.{flat-length}
 use Rattle.octets.proofs.OctetLaws.{length-blank}
 use Rattle.chains.specs.Lists.{In, pick}
-use Rattle.chains.specs.Graph.{Graph, Sound, maxTtl}
+use Rattle.chains.specs.Graph.{Graph, maxTtl}
+use Rattle.chains.specs.Sound.{Sound}
 use Rattle.chains.specs.Chain.{lastLength, spelt}
 use Rattle.chains.specs.Listing.{chainsOf, workOf}
-use Rattle.chains.specs.Addresses.{insert, gather, addressesOf, spell}
+use Rattle.chains.specs.Addresses.{insert, gather, addressesOf}
+use Rattle.chains.specs.Spelling.{spell}
 use Rattle.chains.specs.Lifetimes.{leastTtl, lifetimeIn, lifetimeOf}
 use Rattle.chains.proofs.Listed.{listed-chain}
 use Rattle.chains.proofs.LifetimeLaws.{least-below, lifetime-spell}
@@ -180,39 +184,25 @@ module _ {N : Type 0} (g : Graph N) (sound : Sound g) (x : N) (limit room : ℕ)
 
     module _ (h : s .1 .full ≡ false) where
       pub found-answer : answering (s .1 .count) (limit + 1 - s .0) ≡ answerOf g x (numberOf g x limit room)
-      unfolding answerOf
       found-answer =
           let q : limit + 1 - s .0 ≡ workOf g x = omega (arith, within few .0, few) in
-          rw (all h .number) (λ i. answering (all h .count i) (q i))
+          (λ i. answering (all h .count i) (q i)) ∙ done-answer _ (all h .number) _ _
 
       pub found-output : s .1 .out ≡ outputOf g x (numberOf g x limit room) (room * 16)
-      unfolding outputOf
       found-output =
-          let q : (room - length (addressesOf g x)) * 16 ≡ room * 16 - length (addressesOf g x) * 16 = omega arith in
-          rw (all h .number) (all h .out ∙ ap (λ (n : ℕ). flat (addressesOf g x) ++ blank n) q)
+          let f = flat-length 16 (addressesOf g x) (within few .1 .rows) in
+          let q : (room - length (addressesOf g x)) * 16 ≡ room * 16 - length (flat (addressesOf g x)) = omega (arith, f) in
+          all h .out ∙ ap (λ (n : ℕ). flat (addressesOf g x) ++ blank n) q ∙ done-out _ (all h .number) _ (room * 16)
 
       pub found-lives : s .1 .lives ≡ livesOf g x (numberOf g x limit room) room
-      unfolding livesOf
-      found-lives = rw (all h .number) (lasting few .beside h)
+      found-lives =
+          lasting few .beside h
+          ∙ ap (λ (n : ℕ). map (lifetimeOf g x) (addressesOf g x) ++ blank (room - n)) (sym (length-map (addressesOf g x) (lifetimeOf g x))) ∙ done-out _ (all h .number) _ room
 
       -- so many fit the answer
       pub found-few : s .1 .count ≤ limit
       unfolding addressesOf workOf
       found-few = let q = gather-length g 128 (spelt g) (chainsOf g x) [] in omega (arith, all h .count, few)
-
--- a refusal
-module _ {N : Type 0} (g : Graph N) (x : N) (number k : ℕ) (e : number ≡ suc k) where
-  pub refused-answer : refusal (suc k) ≡ answerOf g x number
-  unfolding answerOf
-  refused-answer = rw e
-
-  pub refused-output : (size : ℕ) → blank size ≡ outputOf g x number size
-  unfolding outputOf
-  refused-output size = rw e
-
-  pub refused-lives : (room : ℕ) → blank room ≡ livesOf g x number room
-  unfolding livesOf
-  refused-lives room = rw e
 
 -- ---- the arrays as a graph
 pub numbered-sound : (r : Records) → Numbered r → Sound (graphOf r)

@@ -1,4 +1,4 @@
--- The lists, made record by record: each record goes to the end of its owner's list. Assumes nothing.
+-- The lists, made record by record: each record goes to the end of its owner's list.
 use Prim.Native.Nat.{ℕ, suc, _+_, _≤_, _<_}
 use mathlib.Core.Path.{_≡_, refl, sym, ap, subst, _∙_}
 use mathlib.Core.Bool.{true, false, _&&_}

@@ -1,4 +1,4 @@
--- 01's examples of lookup, with numbers for names, by computation: the answer, the output, the lifetimes, and the state that a search comes to. Assumes nothing.
+-- 01's examples of lookup, with numbers for names, by computation: the answer, the output, the lifetimes, and the state that a search comes to.
 use Prim.Native.Nat.{ℕ, _+_, _-_, _*_, _/_}
 use mathlib.Core.Path.{_≡_, refl}
 use mathlib.Core.Bool.{Bool, true, false}
@@ -6,8 +6,8 @@ use mathlib.Core.List.{List, [], _∷_, _++_, map}
 use lib.ListN.{length, getD, drop}
 use Rattle.octets.specs.declared.Answer.{Answer}
 use Rattle.octets.specs.Octets.{blank, same, flat}
-use Rattle.bits.specs.Bits.{unpack, pack}
-use Rattle.octets.specs.Answers.{answering, refusal}
+use Rattle.bits.specs.Bits.{unpack, pack, packFrom, bitsOf}
+use Rattle.octets.specs.Answers.{answering, refusal, answerBy, outBy}
 use Rattle.octets.specs.Numbers.{octetsOf}
 use Rattle.address.specs.Address.{bits, bitAt, joinOf}
 use Rattle.address.specs.Order.{orderOf}
@@ -15,12 +15,13 @@ use Rattle.chains.specs.Lists.{upTo}
 use Rattle.chains.specs.Graph.{maxTtl}
 use Rattle.chains.specs.Chain.{lastLength, speltBit, spelt}
 use Rattle.chains.specs.Listing.{free, extend, paths, chainsFrom, chainsOf, workOf}
-use Rattle.chains.specs.Addresses.{insert, gather, addressesOf, spell}
+use Rattle.chains.specs.Addresses.{insert, gather, addressesOf}
+use Rattle.chains.specs.Spelling.{spell}
 use Rattle.chains.specs.Lifetimes.{leastTtl, lifetimeIn, lifetimeOf}
 use Rattle.rows.specs.Halves.{addressOf}
 use Rattle.rows.specs.Rows.{seek, putAt, lowered, keepAt, keepIn}
-use Rattle.search.specs.Search.{maxRecords, headOf, targetIn, lengthIn, ttlIn, Records, records, graphOf, State, visit, run, searched}
-use Rattle.search.specs.Answers.{numberOf, answerOf, outputOf, livesOf, foundOf, writtenOf, lastingOf}
+use Rattle.search.specs.Search.{maxRecords, headOf, targetIn, lengthIn, ttlIn, Records, records, graphOf, State, visit, run, searched, foundOf, writtenOf, lastingOf}
+use Rattle.search.specs.Answers.{numberOf}
 use Rattle.search.proofs.AnswerLaws.{start}
 
 -- 2001:db8:s:t::m, and the number that its first half is; its last is m
@@ -66,7 +67,7 @@ record Outcome : Type 0 where
   full : Bool
 
 given : Case → Outcome
-unfolding targetIn lengthIn ttlIn numberOf answerOf outputOf livesOf lifetimeOf lifetimeIn leastTtl same flat searched run visit keepIn keepAt seek putAt lowered chainsOf chainsFrom paths extend upTo free blank workOf addressesOf gather insert orderOf lastLength spell joinOf spelt speltBit bitAt bits unpack pack addressOf octetsOf
+unfolding targetIn lengthIn ttlIn numberOf answerBy outBy lifetimeOf lifetimeIn leastTtl same flat searched run visit keepIn keepAt seek putAt lowered chainsOf chainsFrom paths extend upTo free blank workOf addressesOf gather insert orderOf lastLength spell joinOf spelt speltBit bitAt bits unpack pack addressOf octetsOf
 given c =
     let g = graphOf (c .table) in
     let s : State = searched g (blank (g .size)) (c .name) 128 (blank 16) maxTtl (c .limit + 1, start (c .size / 16)) in
@@ -154,5 +155,5 @@ cases =
     ∷ []
 
 examples-hold : map given cases ≡ map expected cases
-unfolding given expected cases
+unfolding given expected cases packFrom bitsOf
 examples-hold = refl

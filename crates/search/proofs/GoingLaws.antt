@@ -1,4 +1,4 @@
--- A search that follows the links: it passes over nothing that fits, and comes to the end of its name's list with the state that is expected. Assumes nothing.
+-- A search that follows the links: it passes over nothing that fits, and comes to the end of its name's list with the state that is expected.
 use Prim.Native.Nat.{ℕ, zero, suc, _+_, _-_, _*_, _≤_, _<_, min}
 use mathlib.Core.Path.{_≡_, refl, sym, ap, subst, _∙_}
 use mathlib.Core.Bool.{Bool, true, false, _&&_}
@@ -50,7 +50,37 @@ module _ (r : Records) (u : List ℕ) (x b m : ℕ) where
       fits-is (graphOf r) u x b m (lists-free (r .owners) u x m h) (leb-true (lengthOf r m) b l)
       (eq-eqb (getD (r .owners) m 0) x (lists-owner (r .owners) u x m h))
 
-module _ (r : Records) (x b : ℕ) (a : List ℕ) (c : ℕ) (m : Memory) where
+-- ---- what a search is asked for: the chains of name x over the records, with at most b bits, that continue the bits a with TTL c, in memory m
+pub record Sought : Type 0 where
+  pub table : Records
+  pub name : ℕ
+  pub bound : ℕ
+  pub bits : List ℕ
+  pub ttl : ℕ
+  pub lent : Memory
+
+abbrev pub sought : Records → ℕ → ℕ → List ℕ → ℕ → Memory → Sought
+sought r x b a c m = record { table = r; name = x; bound = b; bits = a; ttl = c; lent = m }
+
+module _ (q : Sought) where
+  abbrev r : Records
+  r = q .table
+
+  abbrev x : ℕ
+  x = q .name
+
+  abbrev b : ℕ
+  b = q .bound
+
+  abbrev a : List ℕ
+  a = q .bits
+
+  abbrev c : ℕ
+  c = q .ttl
+
+  abbrev m : Memory
+  m = q .lent
+
   abbrev n : ℕ
   n = length (r .owners)
 
@@ -72,7 +102,7 @@ module _ (r : Records) (x b : ℕ) (a : List ℕ) (c : ℕ) (m : Memory) where
   pass-to : (j t : ℕ) → j ≤ t → ((w : ℕ) → j ≤ w → w < t → lists (r .owners) u x w ≡ false) → to t ≡ to j
   pass-to j t l h =
       let e : t ≡ j + (t - j) = omega arith in
-      ap to e ∙ pass (t - j) j (λ w o q. h w o (omega arith))
+      ap to e ∙ pass (t - j) j (λ w o p. h w o (omega arith))
 
   -- ---- the loop: at i, which is in the list of x or past all records
   pub record Going (m′ : Memory) (i : ℕ) : Type 0 where
@@ -100,7 +130,7 @@ module _ (r : Records) (x b : ℕ) (a : List ℕ) (c : ℕ) (m : Memory) where
           listed = λ o. h .here o .1;
         }
 
-    module _ (m′ : Memory) (i : ℕ) (v : Going m′ i) (li : i < n) where
+    module _ {m′ : Memory} {i : ℕ} (v : Going m′ i) (li : i < n) where
       unmarked : getD u i 0 ≡ 0
       unmarked = lists-free (r .owners) u x i (v .listed li)
 
@@ -181,8 +211,8 @@ module _ (r : Records) (x b : ℕ) (a : List ℕ) (c : ℕ) (m : Memory) where
         room = v .room;
       }
 
-    pub going-end : (m′ : Memory) (i : ℕ) → Going m′ i → n ≤ i → Done m m′ (searchOf r x b a c m)
-    going-end m′ i v l =
+    pub going-end : {m′ : Memory} {i : ℕ} → Going m′ i → n ≤ i → Done m m′ (searchOf r x b a c m)
+    going-end {i = i} v l =
         let e : min i n ≡ n = omega arith in
         record {
           next = v .next;

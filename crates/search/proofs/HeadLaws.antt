@@ -1,4 +1,4 @@
--- Laws of a record's head: each part of it comes back. Assumes nothing.
+-- Laws of a record's head: each part of it comes back.
 use Prim.Native.Nat.{ℕ, _<_}
 use mathlib.Core.Path.{_≡_}
 use native.Mathlib.Omega.{arith}

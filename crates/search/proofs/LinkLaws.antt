@@ -1,4 +1,4 @@
--- Taking a record out of its list and putting it back: what the links say before and after. Assumes nothing.
+-- Taking a record out of its list and putting it back: what the links say before and after.
 use Prim.Native.Nat.{ℕ, zero, suc, _+_, _<_}
 use mathlib.Core.Path.{_≡_, refl, sym, ap, subst, _∙_}
 use mathlib.Core.Bool.{Bool, true, false, _&&_}

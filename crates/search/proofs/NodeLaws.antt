@@ -1,4 +1,4 @@
--- First and last positions of a predicate, and what taking one position out of it changes. Assumes nothing.
+-- First and last positions of a predicate, and what taking one position out of it changes.
 use Prim.Native.Nat.{ℕ, suc, _≤_, _<_}
 use mathlib.Core.Path.{_≡_, ap, _∙_}
 use mathlib.Core.Bool.{Bool, true, false}

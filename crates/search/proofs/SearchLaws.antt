@@ -1,4 +1,4 @@
--- Laws of a search as a fold over chains: what a step gives, and what the records before a place give. Assumes nothing.
+-- Laws of a search as a fold over chains: what a step gives, and what the records before a place give.
 use Prim.Native.Nat.{ℕ, zero, suc, _+_, _-_, _≤_, _<_, min}
 use mathlib.Core.Path.{_≡_, refl, sym, ap, _∙_}
 use mathlib.Core.Bool.{Bool, true, false}
@@ -14,7 +14,7 @@ use Rattle.chains.specs.Lists.{pick, upTo}
 use Rattle.chains.specs.Graph.{Graph}
 use Rattle.chains.specs.Chain.{lastLength}
 use Rattle.chains.specs.Listing.{free, fits, extend, paths, chainsFrom}
-use Rattle.chains.specs.Addresses.{spell}
+use Rattle.chains.specs.Spelling.{spell}
 use Rattle.chains.specs.Lifetimes.{leastTtl}
 use Rattle.chains.proofs.ListingLaws.{free-mark, extend-end, extend-on}
 use Rattle.rows.specs.Rows.{Kept, keepIn}

@@ -1,4 +1,4 @@
--- A step into a record: the record is out of its list while the search goes on from it, and is in it again afterwards. Assumes nothing.
+-- A step into a record: the record is out of its list while the search goes on from it, and is in it again afterwards.
 use Prim.Native.Nat.{ℕ, suc, _+_, _-_, _*_, _≤_, _<_, min}
 use mathlib.Core.Path.{_≡_, refl, sym, ap, subst, _∙_}
 use mathlib.Core.List.{List}
@@ -12,7 +12,7 @@ use Rattle.search.specs.Search.{Records, targetOf, lengthOf, ttlOf, addr
 use Rattle.search.specs.Links.{Linked, maxNodes, maxNames, Memory, memory, stateOf, unusedOf, searchOf, stepOf, Fit, Ready, Done}
 use Rattle.search.proofs.LinkLaws.{prev-node, next-node, marks-out, unlinked-marks, relinked-next, relinked-prev}
 use Rattle.search.proofs.SearchLaws.{stepped-end, stepped-on}
-use Rattle.search.proofs.GoingLaws.{memory-eq, going-start, going-end}
+use Rattle.search.proofs.GoingLaws.{memory-eq, sought, going-start, going-end}
 
 -- the record i taken out from between its neighbours p and q, and the links that this leaves
 pub record Taken (m : Memory) (i : ℕ) : Type 0 where
@@ -89,8 +89,8 @@ module _ {r : Records} {m : Memory} {bound i : ℕ} (o : Ready r m bound i) wher
       pub nothing : 0 < lengthOf r i → length (r .owners) ≤ getD (k .next) (length (r .owners) + targetOf r i) 0 → Done (without m i k) (without m i k) (onward r m bound i a c k)
       nothing h e =
           let g = fit-without (lengthOf r i) refl h in
-          going-end r (targetOf r i) (lengthOf r i) (joinOf (addressIn (r .fields) i) a bound) (min c (ttlOf r i)) (without m i k) g (without m i k) _
-          (going-start r (targetOf r i) (lengthOf r i) (joinOf (addressIn (r .fields) i) a bound) (min c (ttlOf r i)) (without m i k) g _ (target-name h) refl) e
+          going-end (sought r (targetOf r i) (lengthOf r i) (joinOf (addressIn (r .fields) i) a bound) (min c (ttlOf r i)) (without m i k)) g
+          (going-start (sought r (targetOf r i) (lengthOf r i) (joinOf (addressIn (r .fields) i) a bound) (min c (ttlOf r i)) (without m i k)) g _ (target-name h) refl) e
 
       -- else it is searched with what the record gives
       pub searched-on : (m′ : Memory) (x b : ℕ) (v : List ℕ) (y : ℕ) → x ≡ targetOf r i → b ≡ lengthOf r i → v ≡ joinOf (addressIn (r .fields) i) a bound → y ≡ min c (ttlOf r i)

@@ -1,4 +1,5 @@
--- The unused records as one circular list a name. Node j, below the number n of records, is the record j; node n + x is both ends of the list of x. Assumes nothing.
+-- The unused records as one circular list a name. Node j, below the number n of records, is the record j; node n + x is both ends of the list of x.
+-- The code's own: nothing that a reader must believe.
 use Prim.Native.Nat.{ℕ, zero, suc, _+_, _*_, _≤_, _<_}
 use mathlib.Core.Path.{_≡_}
 use mathlib.Core.Bool.{Bool, true, false, _&&_}

@@ -1,5 +1,5 @@
 -- What a search does: it visits the chains of a name in their order, counts them, and keeps what the complete ones spell (01, Chains), with
--- the least TTL of their records (T-01). Assumes nothing.
+-- the least TTL of their records (T-01). The code's own: nothing that a reader must believe.
 use Prim.Native.Nat.{ℕ, _+_, _-_, _*_, _/_, _%_}
 use mathlib.Core.List.{List, [], _∷_}
 use lib.Dec.{eqb}
@@ -8,10 +8,12 @@ use Rattle.chains.specs.Lists.{pick}
 use Rattle.chains.specs.Graph.{Graph}
 use Rattle.chains.specs.Chain.{lastLength}
 use Rattle.chains.specs.Listing.{free, extend, paths, chainsFrom}
-use Rattle.chains.specs.Addresses.{spell}
+use Rattle.chains.specs.Spelling.{spell}
 use Rattle.chains.specs.Lifetimes.{leastTtl}
 use Rattle.rows.specs.Halves.{addressOf}
 use Rattle.rows.specs.Rows.{Kept, keepIn}
+use Rattle.octets.specs.declared.Answer.{Answer}
+use Rattle.search.specs.Answers.{numberOf, answerOf, outputOf, livesOf}
 
 -- a record's target, prefix length and TTL in one number, its head, and each of them from it
 unfoldable pub headOf : ℕ → ℕ → ℕ → ℕ
@@ -84,3 +86,14 @@ module _ {N : Type 0} (g : Graph N) where
   -- over those that begin with the record i
   unfoldable pub stepped : List ℕ → ℕ → ℕ → List ℕ → ℕ → State → State
   stepped u i b a c s = run b a c s (extend g i (paths g (free u) (set u i 1) (g .target i) (g .len i)))
+
+-- what `find` answers and writes, by the limit and the size of the output
+module _ {N : Type 0} (g : Graph N) (x : N) where
+  abbrev pub foundOf : ℕ → ℕ → Answer
+  foundOf limit size = answerOf g x (numberOf g x limit (size / 16))
+
+  abbrev pub writtenOf : ℕ → ℕ → List ℕ
+  writtenOf limit size = outputOf g x (numberOf g x limit (size / 16)) size
+
+  abbrev pub lastingOf : ℕ → ℕ → List ℕ
+  lastingOf limit size = livesOf g x (numberOf g x limit (size / 16)) (size / 16)

@@ -7,9 +7,8 @@ ghost use Rattle.octets.specs.Answers.{refusal};
 ghost use Rattle.address.specs.Address.{joinOf};
 ghost use Rattle.rows.specs.Halves.{addressOf};
 ghost use Rattle.rows.specs.Rows.{maxFigures, kept, keepIn, Ordered};
-ghost use Rattle.search.specs.Search.{maxRecords, headOf, targetIn, lengthIn, ttlIn, records, addressIn, graphOf};
+ghost use Rattle.search.specs.Search.{maxRecords, headOf, targetIn, lengthIn, ttlIn, records, addressIn, graphOf, foundOf, writtenOf, lastingOf};
 ghost use Rattle.search.specs.Links.{maxNames, Numbered, memory, searchOf, stepOf, Fit, Ready, Done};
-ghost use Rattle.search.specs.Answers.{foundOf, writtenOf, lastingOf};
 use crate::links;
 use rows::inside::FIGURES;
 
@@ -103,7 +102,9 @@ fn finish(
 )
     requires { ⌜ (i < maxRecords) × (0 < bound) × (bound ≤ 128) ⌝ }
     requires { ⌜ (length (now figures) ≡ maxFigures) × (getD (now figures) 0 0 * 16 ≤ length (now out)) × (length (now lives) * 16 ≡ length (now out)) × Ordered (kept (now out) (now lives) (now figures)) ⌝ }
-    ensures { λ _. ⌜ (kept (now (out .exit)) (now (lives .exit)) (now (figures .exit)) ≡ keepIn (joinOf (addressIn (now (fields .entry)) i) (addressOf high low) bound) (min ttl (ttlIn (getD (now (fields .entry)) i 0))) (kept (now (out .entry)) (now (lives .entry)) (now (figures .entry)))) × (length (now (figures .exit)) ≡ maxFigures) × (getD (now (figures .exit)) 0 0 * 16 ≤ length (now (out .entry))) ⌝ }
+    ensures { λ _. ⌜ (kept (now (out .exit)) (now (lives .exit)) (now (figures .exit))
+        ≡ keepIn (joinOf (addressIn (now (fields .entry)) i) (addressOf high low) bound) (min ttl (ttlIn (getD (now (fields .entry)) i 0))) (kept (now (out .entry)) (now (lives .entry)) (now (figures .entry))))
+        × (length (now (figures .exit)) ≡ maxFigures) × (getD (now (figures .exit)) 0 0 * 16 ≤ length (now (out .entry))) ⌝ }
 {
     if rows::inside::is_full(figures) {
         return;
@@ -133,7 +134,9 @@ fn step(
     left: u64,
 ) -> u64
     requires { ⌜ Ready (records (now owners) (now fields)) (memory (now next) (now prev) (now out) (now lives) (now figures) left) bound i ⌝ }
-    ensures { λ r. ⌜ Done (memory (now (next .entry)) (now (prev .entry)) (now (out .entry)) (now (lives .entry)) (now (figures .entry)) left) (memory (now (next .exit)) (now (prev .exit)) (now (out .exit)) (now (lives .exit)) (now (figures .exit)) r) (stepOf (records (now (owners .entry)) (now (fields .entry))) i bound (addressOf high low) ttl (memory (now (next .entry)) (now (prev .entry)) (now (out .entry)) (now (lives .entry)) (now (figures .entry)) left)) ⌝ }
+    ensures { λ r. ⌜ Done (memory (now (next .entry)) (now (prev .entry)) (now (out .entry)) (now (lives .entry)) (now (figures .entry)) left)
+        (memory (now (next .exit)) (now (prev .exit)) (now (out .exit)) (now (lives .exit)) (now (figures .exit)) r)
+        (stepOf (records (now (owners .entry)) (now (fields .entry))) i bound (addressOf high low) ttl (memory (now (next .entry)) (now (prev .entry)) (now (out .entry)) (now (lives .entry)) (now (figures .entry)) left)) ⌝ }
 {
     let head = fields[i];
     let length = length_in(head);
@@ -194,7 +197,9 @@ fn search(
 ) -> u64
     requires { ⌜ Fit (records (now owners) (now fields)) (memory (now next) (now prev) (now out) (now lives) (now figures) left) bound ⌝ }
     requires { ⌜ (x < maxNames) × (first ≡ getD (now next) (length (now owners) + x) 0) ⌝ }
-    ensures { λ r. ⌜ Done (memory (now (next .entry)) (now (prev .entry)) (now (out .entry)) (now (lives .entry)) (now (figures .entry)) left) (memory (now (next .exit)) (now (prev .exit)) (now (out .exit)) (now (lives .exit)) (now (figures .exit)) r) (searchOf (records (now (owners .entry)) (now (fields .entry))) x bound (addressOf high low) ttl (memory (now (next .entry)) (now (prev .entry)) (now (out .entry)) (now (lives .entry)) (now (figures .entry)) left)) ⌝ }
+    ensures { λ r. ⌜ Done (memory (now (next .entry)) (now (prev .entry)) (now (out .entry)) (now (lives .entry)) (now (figures .entry)) left)
+        (memory (now (next .exit)) (now (prev .exit)) (now (out .exit)) (now (lives .exit)) (now (figures .exit)) r)
+        (searchOf (records (now (owners .entry)) (now (fields .entry))) x bound (addressOf high low) ttl (memory (now (next .entry)) (now (prev .entry)) (now (out .entry)) (now (lives .entry)) (now (figures .entry)) left)) ⌝ }
 {
     let mut s = left;
     let mut i = first;

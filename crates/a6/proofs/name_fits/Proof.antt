@@ -1,4 +1,4 @@
--- `a6::name_fits` meets its contract. Assumes nothing.
+-- `a6::name_fits` meets its contract.
 use mathlib.Core.Path.{sym, _∙_}
 use borrow.Author.Needs.{needs}
 use Rattle.a6.proofs.WriteLaws.{fits-none, fits-some}

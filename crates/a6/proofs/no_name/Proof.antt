@@ -1,11 +1,12 @@
--- `a6::no_name` meets its contract. Assumes nothing.
+-- `a6::no_name` meets its contract.
 use mathlib.Core.Path.{refl}
 use Rattle.names.specs.Name.{nameOf}
 use Rattle.a6.proofs.no_name.Statement.{statement}
 use Rattle.a6.proofs.no_name.Tie as tie
+use Rattle.octets.specs.Octets.{blank}
 
 returns : tie.Need-returns
-unfolding nameOf
+unfolding nameOf blank
 returns c = refl
 
 pub no-name-spec : {M : Type 1} → statement M

@@ -1,9 +1,8 @@
--- `a6::refused` meets its contract. Assumes nothing.
+-- `a6::refused` meets its contract.
 use mathlib.Core.Path.{ap}
 use borrow.Author.Needs.{needs}
-use Rattle.names.specs.declared.Name.{Name}
-use Rattle.a6.specs.Read.{refusedReading}
 use Rattle.octets.specs.Octets.{blank}
+use Rattle.names.specs.declared.Name.{Name}
 use Rattle.a6.proofs.refused.Statement.{statement}
 use Rattle.a6.proofs.refused.Tie as tie
 
@@ -11,7 +10,7 @@ no-name-requires : tie.Need-no-name-requires
 no-name-requires c κs = search needs
 
 returns : tie.Need-returns
-unfolding refusedReading
+unfolding blank
 returns c = ap (λ (n : Name). record { number = c .before .args .number; value = record { prefix = 0; address = blank 16; name = n } }) (c .no-name .ensures)
 
 pub refused-spec : {M : Type 1} → statement M

@@ -1,4 +1,4 @@
--- `a6::suffix_octets` meets its contract. Assumes nothing.
+-- `a6::suffix_octets` meets its contract.
 use native.Mathlib.Omega.{arith}
 use borrow.Author.Needs.{needs}
 use Rattle.a6.proofs.suffix_octets.Statement.{statement}

@@ -1,4 +1,4 @@
--- `a6plan::a6plan_check` meets its contract: the number is the one that the check answers. Assumes nothing.
+-- `a6plan::a6plan_check` meets its contract: the number is the one that the check answers.
 use mathlib.Core.Path.{ap, _∙_}
 use borrow.Author.Needs.{needs}
 use Rattle.octets.specs.declared.Answer.{Answer}

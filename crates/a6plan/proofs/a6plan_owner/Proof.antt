@@ -1,42 +1,65 @@
--- `a6plan::a6plan_owner` meets its contract: the part's place and length fit 32 bits, and are reported. Assumes nothing.
-use Prim.Native.Nat.{_+_, _*_, _≤_}
-use mathlib.Core.Path.{ap, _∙_}
+-- `a6plan::a6plan_owner` meets its contract: the part's place and length fit 32 bits, and are its figures.
+use Prim.Native.Nat.{ℕ, _+_, _*_, _≤_}
+use mathlib.Core.Path.{_≡_, ap, _∙_, sym}
+use lib.Dec.{eqb}
 use lib.ListN.{length}
 use native.Mathlib.Omega.{arith}
 use borrow.Author.Needs.{needs}
+use Rattle.octets.specs.Answers.{answering}
+use Rattle.chains.specs.Lists.{pick}
 use Rattle.plan.specs.declared.Part.{Part}
-use Rattle.plan.specs.Layout.{maxRecords, recordSize}
-use Rattle.plan.proofs.PartLaws.{part-small}
-use Rattle.a6plan.specs.Exports.{partAnswer, exportedFigures}
+use Rattle.plan.specs.Layout.{maxRecords, recordSize, ownerPlace}
+use Rattle.plan.specs.Part.{ownerPart}
+use Rattle.plan.proofs.PartLaws.{part-small, part-long, part-place}
+use Rattle.a6plan.specs.Exports.{exportedFigures}
 use Rattle.a6plan.proofs.a6plan_owner.Statement.{statement}
 use Rattle.a6plan.proofs.a6plan_owner.Tie as tie
 
-owner-part-requires : tie.Need-owner-part-requires
-owner-part-requires c κs = search needs
+-- where the part is at hand: what was handed in, the part that is due, and that what is shown is as long
+abbrev begun : tie.After-owner → tie.Start
+begun c = c .before .before .before
 
--- the part ends within the longest table
-small : (c : tie.After-owner-part) → c .owner-part .result .offset + c .owner-part .result .length ≤ maxRecords * recordSize
-small c = rw (c .owner-part .ensures) (part-small (c .before .before .before .args .table .now) (c .before .before .before .args .index))
+abbrev part : tie.After-owner → Part
+part c = ownerPart (begun c .args .table .now) (begun c .args .index)
 
-cast-offset : tie.Need-cast-offset
-cast-offset c = omega (arith, small (c .before))
+long : (c : tie.After-owner) → length (c .owner .result .now) ≡ part c .length
+long c = ap length (c .owner .ensures .contents) ∙ part-long (begun c .args .table .now) (begun c .args .index)
 
-cast-length : tie.Need-cast-length
-cast-length c = omega (arith, small (c .before .before))
+small : (c : tie.After-owner) → part c .offset + part c .length ≤ maxRecords * recordSize
+small c = part-small (begun c .args .table .now) (begun c .args .index)
 
-report-requires : tie.Need-report-requires
-report-requires c κs = search needs
+-- and its place
+place : (c : tie.After-owner-place) → c .owner-place .result ≡ part (c .before) .offset
+place c =
+    let k = c .before in
+    let i = begun k .args .index in
+    c .owner-place .ensures ∙ ap (λ (n : ℕ). pick (eqb n 0) 0 (i * recordSize + (ownerPlace + 1))) (long k) ∙ sym (part-place (begun k .args .table .now) i .0)
+
+owner-requires : tie.Need-owner-requires
+owner-requires c κs = search needs
+
+owner-place-requires : tie.Need-owner-place-requires
+owner-place-requires c κs = λ h. part-place (begun c .args .table .now) (begun c .args .index) .1 (λ e. h (long c ∙ e))
+
+cast-t8 : tie.Need-cast-t8
+cast-t8 c = omega (arith, place c, small (c .before))
+
+cast-t9 : tie.Need-cast-t9
+cast-t9 c = omega (arith, long (c .before), small (c .before))
+
+figure-requires : tie.Need-figure-requires
+figure-requires c κs = search needs
 
 same-length : tie.Need-same-length
 same-length c = search needs
 
 returns : tie.Need-returns
 returns c =
-    let told = c .before .before .report in
-    let n = length (c .before .before .before .before .before .before .before .before .before .args .figures .now) in
-    (told .ensures .0, told .ensures .1 ∙ ap (λ (p : Part). exportedFigures (told .result) (partAnswer p) n) (c .before .before .before .before .before .before .owner-part .ensures))
+    let f = c .before .before .figure in
+    let p = c .before .before .before .before in
+    let k = p .before in
+    let n = length (begun k .args .figures .now) in
+    (f .ensures .0, f .ensures .1 ∙ λ i. exportedFigures (f .result) (answering (place p i) (long k i)) n)
 
 pub a6plan-owner-spec : {M : Type 1} → statement M
-a6plan-owner-spec =
-    tie.close
-    (tie.spec owner-part-requires cast-offset cast-length report-requires same-length returns)
+a6plan-owner-spec = tie.close (tie.spec owner-requires owner-place-requires cast-t8 cast-t9 figure-requires same-length returns)

@@ -1,4 +1,4 @@
--- `a6plan::exported` meets its contract: each way out is one law. Assumes nothing.
+-- `a6plan::exported` meets its contract: each way out is one law.
 use mathlib.Core.Path.{sym}
 use Rattle.a6plan.proofs.ExportLaws.{exported-two, exported-done, exported-late, exported-early}
 use Rattle.a6plan.proofs.exported.Statement.{statement}

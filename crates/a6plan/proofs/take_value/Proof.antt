@@ -1,4 +1,4 @@
--- `a6plan::take_value` meets its contract: each part is a copy. Assumes nothing.
+-- `a6plan::take_value` meets its contract: each part is a copy.
 use mathlib.Core.Path.{refl, _∙_}
 use lib.ListN.{drop}
 use Rattle.octets.specs.Octets.{blank}

@@ -1,4 +1,4 @@
--- `address::compare` meets its contract. The loop's invariant: what is left stands as the whole does. Assumes nothing.
+-- `address::compare` meets its contract. The loop's invariant: what is left stands as the whole does.
 use Prim.Native.Nat.{_-_, _≤_, min}
 use mathlib.Core.Path.{_≡_, _∙_, sym}
 use lib.ListN.{length, drop}

@@ -1,4 +1,4 @@
--- `address::is_clear` meets its contract. The loop's invariant: what is left is clear exactly when the whole is. Assumes nothing.
+-- `address::is_clear` meets its contract. The loop's invariant: what is left is clear exactly when the whole is.
 use Prim.Native.Nat.{ℕ, _-_, _*_, _/_, _≤_, min}
 use mathlib.Core.Path.{_≡_, ap, _∙_, sym}
 use lib.ListN.{length, drop}

@@ -1,4 +1,4 @@
--- `address::join` meets its contract. The loop's invariant: the octets passed are those of the join. Assumes nothing.
+-- `address::join` meets its contract. The loop's invariant: the octets passed are those of the join.
 use Prim.Native.Nat.{_-_, _*_, _≤_, min}
 use mathlib.Core.Path.{_≡_, refl, _∙_, sym}
 use lib.ListN.{length, getD, take, length-set}

@@ -1,4 +1,4 @@
--- `address::mask` meets its contract. Assumes nothing.
+-- `address::mask` meets its contract.
 use Prim.Native.Nat.{_%_}
 use lib.Pow.{shr-le}
 use native.Mathlib.Omega.{arith}

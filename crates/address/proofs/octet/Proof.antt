@@ -1,4 +1,4 @@
--- `address::octet` meets its contract: the mask picks the first bits of one octet and the rest of the other. Assumes nothing.
+-- `address::octet` meets its contract: the mask picks the first bits of one octet and the rest of the other.
 use Prim.Native.Nat.{_-_, _*_, min}
 use native.Mathlib.Omega.{arith}
 use Rattle.address.proofs.JoinLaws.{mask-mix}

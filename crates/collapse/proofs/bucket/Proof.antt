@@ -1,4 +1,4 @@
--- `collapse::bucket` meets its contract. Assumes nothing.
+-- `collapse::bucket` meets its contract.
 use native.Mathlib.Omega.{arith}
 use Rattle.collapse.specs.Running.{bucketOf}
 use borrow.Author.Needs.{needs}

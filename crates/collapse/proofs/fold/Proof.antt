@@ -1,21 +1,86 @@
--- `collapse::fold` meets its contract: 9, then 7, then the records. Assumes nothing.
-use mathlib.Core.Path.{sym, ap, subst, _∙_}
+-- `collapse::fold` meets its contract: 9, then 7, then the records.
+use mathlib.Core.Path.{_≡_, sym, ap, subst, _∙_}
+use mathlib.Core.Bool.{false}
+use mathlib.Core.List.{List}
 use native.Mathlib.Omega.{arith}
-use Prim.Native.Nat.{ℕ, _/_, _≤_, _<_}
+use Prim.Native.Nat.{ℕ, _/_, _≤_, _<_, min}
 use lib.ListN.{length}
 use Rattle.octets.specs.Octets.{blank}
 use Rattle.octets.specs.Answers.{answering}
+use Rattle.octets.proofs.AnswerLaws.{not-nought, refused-answer, refused-out}
 use Rattle.names.proofs.StandardLaws.{in-standard}
-use Rattle.plan.specs.Layout.{recordSize}
-use Rattle.collapse.specs.Fold.{foldOf}
+use Rattle.plan.specs.Layout.{recordSize, maxRecords}
+use Rattle.plan.specs.Check.{entryNumber}
+use Rattle.plan.proofs.EntryLaws.{entry-done}
+use Rattle.collapse.specs.Fold.{reviving, foldOf}
+use Rattle.collapse.specs.Collapse.{numberOf}
 use Rattle.collapse.specs.declared.Span.{Span}
 use Rattle.collapse.proofs.FoldLaws.{fold-whole}
 use Rattle.collapse.proofs.RunningLaws.{revives-by, quiet-by, stored-cleared}
-use Rattle.collapse.proofs.CollapseLaws.{passes-limit, passes-not, number-reviving, number-room, number-done, refused-answer, refused-out, done-answer, done-out}
+use Rattle.collapse.proofs.CollapseLaws.{passes-limit, passes-not, number-reviving, number-room, number-done, accepted-answer, accepted-out}
 use borrow.Author.Needs.{needs}
 use Rattle.collapse.proofs.fold.Statement.{statement}
 use Rattle.collapse.proofs.fold.Tie as tie
 
+-- ---- what is known at its places: `tie.Then1` and `tie.Else1` after the survey, `tie.Then2` and `tie.Else2` after the records are put
+abbrev begun : tie.After-survey → tie.Start
+begun c = c .before .before .before .before
+
+abbrev on : tie.After-slice-known3 → tie.Else1
+on c = c .before .before .before .before .before
+
+abbrev begun-put : tie.After-slice-known3 → tie.Start
+begun-put c = begun (on c .before)
+
+abbrev put : tie.After-slice-known3 → tie.After-put-all
+put c = c .before .before
+
+abbrev table : tie.Start → List ℕ
+table c = c .args .table .now
+
+abbrev name : tie.Start → List ℕ
+name c = c .args .name .now
+
+abbrev size : tie.Start → ℕ
+size c = length (c .args .out .now)
+
+valid : (c : tie.Start) → entryNumber (table c) (name c) ≡ 0
+valid c = entry-done (table c) (name c) (c .pre .0) (in-standard (name c) (c .pre .1) .0)
+
+earns-nine : (c : tie.Then1) → let s = begun (c .before) in numberOf (table s) (name s) (size s) ≡ 9
+earns-nine c =
+    let s = begun (c .before) in
+    let v = revives-by (name s) (table s) (s .pre .0) (subst (λ (v : Span). v .shortest < v .longest) (c .before .survey .ensures) (c .if1 .taken)) in
+    number-reviving (table s) (name s) (size s) (valid s) (s .pre .2) v
+
+quiet : (c : tie.Else1) → reviving (name (begun (c .before))) (table (begun (c .before))) ≡ false
+quiet c =
+    let s = begun (c .before) in
+    quiet-by (name s) (table s) (s .pre .0) (subst (λ (v : Span). v .longest ≤ v .shortest) (c .before .survey .ensures) (c .if1 .left))
+
+most : (c : tie.After-slice-known3) → put c .before .before .limit .result ≡ min (size (begun-put c) / recordSize) maxRecords
+most c = put c .before .before .limit .ensures
+
+kept : (c : tie.After-slice-known3) → length (put c .put-all .last .1 .1 .1 .0) ≡ size (begun-put c)
+kept c = put c .put-all .kept .1 .1 .1 .0
+
+earns-seven : (c : tie.Then2) → let s = begun-put (c .before) in numberOf (table s) (name s) (size s) ≡ 7
+earns-seven c =
+    let s = begun-put (c .before) in
+    let k = put (c .before) .put-all .ensures .over (c .if2 .taken) in
+    number-room (table s) (name s) (size s) (valid s) (s .pre .2) (quiet (on (c .before))) (passes-limit (size s) (foldOf (name s) (table s)) (omega (arith, k, most (c .before))))
+
+fits : (c : tie.Else2) → let s = begun-put (c .before) in (length (foldOf (name s) (table s)) ≤ size s / recordSize) × (length (foldOf (name s) (table s)) ≤ maxRecords)
+fits c =
+    let k = put (c .before) .put-all .ensures .all (c .if2 .left) in
+    (omega (arith, k .0, c .if2 .left, most (c .before)), omega (arith, k .0, c .if2 .left, most (c .before)))
+
+earns-none : (c : tie.Else2) → let s = begun-put (c .before) in numberOf (table s) (name s) (size s) ≡ 0
+earns-none c =
+    let s = begun-put (c .before) in
+    number-done (table s) (name s) (size s) (valid s) (s .pre .2) (quiet (on (c .before))) (passes-not (size s) (foldOf (name s) (table s)) (fits c .0) (fits c .1))
+
+-- ---- and what it owes
 survey-requires : tie.Need-survey-requires
 survey-requires c κs = search needs
 
@@ -27,14 +92,10 @@ same-length c = search needs
 
 returns : tie.Need-returns
 returns c =
-    let a = c .before .before .before .before .before .before .before .before .before .args in
-    let w = c .before .before .before .before .before .before .before .before .before .pre in
-    let t = a .table .now in
-    let x = a .name .now in
-    let size = length (a .out .now) in
-    let v = revives-by x t (w .0) (subst (λ (v : Span). v .shortest < v .longest) (c .before .before .before .before .before .survey .ensures) (c .before .before .before .before .if1 .taken)) in
-    let e = number-reviving t x size (w .0) (in-standard x (w .1) .0) (w .2) v in
-    (c .before .before .refuse .ensures .0 ∙ sym (refused-answer t x size 8 e), c .before .before .refuse .ensures .1 ∙ sym (refused-out t x size 8 e))
+    let r = c .before .before in
+    let t = r .before .before in
+    let s = begun (t .before) in
+    (r .refuse .ensures .0 ∙ refused-answer 9 _ (sym (earns-nine t)) (not-nought 8) _ 0, r .refuse .ensures .1 ∙ refused-out 9 _ (sym (earns-nine t)) (not-nought 8) _ (size s))
 
 limit-requires : tie.Need-limit-requires
 limit-requires c κs = search needs
@@ -50,16 +111,12 @@ same-length-2 c = search needs
 
 returns-2 : tie.Need-returns-2
 returns-2 c =
-    let a = c .before .before .before .before .before .before .before .before .before .before .before .before .before .before .before .args in
-    let w = c .before .before .before .before .before .before .before .before .before .before .before .before .before .before .before .pre in
-    let t = a .table .now in
-    let x = a .name .now in
-    let size = length (a .out .now) in
-    let q = quiet-by x t (w .0) (subst (λ (v : Span). v .longest ≤ v .shortest) (c .before .before .before .before .before .before .before .before .before .before .before .survey .ensures) (c .before .before .before .before .before .before .before .before .before .before .if1 .left)) in
-    let f = in-standard x (w .1) .0 in
-    let k = c .before .before .before .before .before .before .before .put-all .ensures .over (c .before .before .before .before .if2 .taken) in
-    let e = number-room t x size (w .0) f (w .2) q (passes-limit size (foldOf x t) (omega (arith, k, c .before .before .before .before .before .before .before .before .before .limit .ensures))) in
-    (c .before .before .refuse2 .ensures .0 ∙ sym (refused-answer t x size 6 e), c .before .before .refuse2 .ensures .1 ∙ ap blank (c .before .before .before .before .before .before .before .put-all .kept .1 .1 .1 .0) ∙ sym (refused-out t x size 6 e))
+    let r = c .before .before in
+    let t = r .before .before in
+    let s = begun-put (t .before) in (
+      r .refuse2 .ensures .0 ∙ refused-answer 7 _ (sym (earns-seven t)) (not-nought 6) _ 0,
+      r .refuse2 .ensures .1 ∙ ap blank (kept (t .before)) ∙ refused-out 7 _ (sym (earns-seven t)) (not-nought 6) _ (size s),
+    )
 
 mul-end : tie.Need-mul-end
 mul-end c = search needs
@@ -84,19 +141,14 @@ same-length-3 c = search needs
 
 returns-3 : tie.Need-returns-3
 returns-3 c =
-    let a = c .before .before .before .before .before .before .before .before .before .before .before .before .before .before .before .args in
-    let w = c .before .before .before .before .before .before .before .before .before .before .before .before .before .before .before .pre in
-    let t = a .table .now in
-    let x = a .name .now in
-    let size = length (a .out .now) in
-    let q = quiet-by x t (w .0) (subst (λ (v : Span). v .longest ≤ v .shortest) (c .before .before .before .before .before .before .before .before .before .before .before .survey .ensures) (c .before .before .before .before .before .before .before .before .before .before .if1 .left)) in
-    let f = in-standard x (w .1) .0 in
-    let k = c .before .before .before .before .before .before .before .put-all .ensures .all (c .before .before .before .before .if2 .left) in
-    let m : length (foldOf x t) ≤ size / recordSize = omega (arith, k .0, c .before .before .before .before .if2 .left, c .before .before .before .before .before .before .before .before .before .limit .ensures) in
-    let p = passes-not size (foldOf x t) m (omega (arith, k .0, c .before .before .before .before .if2 .left, c .before .before .before .before .before .before .before .before .before .limit .ensures)) in
-    let e = number-done t x size (w .0) f (w .2) q p in (
-      ap (λ (v : ℕ). answering v 0) (k .0) ∙ sym (done-answer t x size e),
-      stored-cleared (a .out .now) _ _ (foldOf x t) (c .before .before .before .before .before .before .before .put-all .result) (fold-whole x t) (k .0) m (k .1) (c .before .before .before .before .before .before .before .put-all .kept .1 .1 .1 .0) (c .before .before .clear .ensures) ∙ sym (done-out t x size e),
+    let r = c .before .before in
+    let e = r .before .before in
+    let s = begun-put (e .before) in
+    let p = put (e .before) .put-all in
+    let k = p .ensures .all (e .if2 .left) in (
+      ap (λ (v : ℕ). answering v 0) (k .0) ∙ sym (accepted-answer (table s) (name s) (size s) (earns-none e)),
+      stored-cleared (s .args .out .now) _ _ (foldOf (name s) (table s)) (p .result) (fold-whole (name s) (table s)) (k .0) (fits e .0) (k .1) (kept (e .before)) (r .clear .ensures)
+          ∙ sym (accepted-out (table s) (name s) (size s) (earns-none e)),
     )
 
 pub fold-spec : {M : Type 1} → statement M

@@ -1,4 +1,4 @@
--- `collapse::greater` meets its contract. Assumes nothing.
+-- `collapse::greater` meets its contract.
 use mathlib.Core.Path.{sym}
 use native.Mathlib.Omega.{arith}
 use Prim.Native.Nat.{max}

@@ -1,7 +1,6 @@
--- `collapse::is_next` meets its contract: the tests in their order. Assumes nothing.
+-- `collapse::is_next` meets its contract: the tests in their order.
 use mathlib.Core.Path.{_≡_, sym, ap, ap₂, _∙_}
 use native.Mathlib.Omega.{arith}
-use mathlib.Core.Bool.{true}
 use Rattle.names.specs.Standard.{sameName, inStandardForm}
 use Rattle.plan.specs.Layout.{ownerOf, targetOf, nameIn}
 use Rattle.plan.proofs.FaultLaws.{targetless-on}
@@ -9,6 +8,16 @@ use Rattle.collapse.proofs.RunningLaws.{continues-other, continues-long
 use borrow.Author.Needs.{needs}
 use Rattle.collapse.proofs.is_next.Statement.{statement}
 use Rattle.collapse.proofs.is_next.Tie as tie
+
+-- the names that are compared, once both are at hand
+abbrev begun : tie.After-name-in2 → tie.Start
+begun c = c .before .before .before .before .before .before .before .before .before .before .before
+
+owner-is : (c : tie.After-name-in2) → c .before .before .name-in .result .now ≡ ownerOf (begun c .args .q .now)
+owner-is c = c .before .before .name-in .ensures ∙ ap nameIn (c .before .before .before .owner-slot .ensures .0)
+
+target-is : (c : tie.After-name-in2) → c .name-in2 .result .now ≡ targetOf (begun c .args .r .now)
+target-is c = c .name-in2 .ensures ∙ ap nameIn (c .before .target-slot .ensures .0)
 
 kind-of-requires : tie.Need-kind-of-requires
 kind-of-requires c κs = search needs
@@ -42,20 +51,20 @@ name-in-requires-2 : tie.Need-name-in-requires-2
 name-in-requires-2 c κs = search needs
 
 equal-requires : tie.Need-equal-requires
-equal-requires c κs = search needs
+equal-requires c κs =
+    let s = begun c in (
+      ap inStandardForm (owner-is c) ∙ s .pre .1 .good .owner .name,
+      ap inStandardForm (target-is c) ∙ s .pre .0 .good .target (targetless-on (s .args .r .now) (λ z. omega (arith, s .pre .2))) .name,
+    )
 
 returns-3 : tie.Need-returns-3
 returns-3 c =
-    let a = c .before .before .before .before .before .before .before .before .before .before .before .before .args in
-    let w = c .before .before .before .before .before .before .before .before .before .before .before .before .pre in
-    let r = a .r .now in
-    let q = a .q .now in
-    let m : c .before .before .before .name-in .result .now ≡ ownerOf q = c .before .before .before .name-in .ensures ∙ ap nameIn (c .before .before .before .before .owner-slot .ensures .0) in
-    let n : c .before .name-in2 .result .now ≡ targetOf r = c .before .name-in2 .ensures ∙ ap nameIn (c .before .before .target-slot .ensures .0) in
-    let s : inStandardForm (c .before .before .before .name-in .result .now) ≡ true = ap inStandardForm m ∙ w .1 .good .owner .name in
-    let t : inStandardForm (c .before .name-in2 .result .now) ≡ true = ap inStandardForm n ∙ w .0 .good .target (targetless-on r (λ z. omega (arith, w .2))) .name in
-    let k = sym (c .before .before .before .before .before .before .before .before .before .kind-of .ensures) ∙ c .before .before .before .before .before .before .before .before .if1 .left in
-    c .equal .ensures .1 s t ∙ ap₂ sameName m n ∙ sym (continues-on r q k (omega (arith, c .before .before .before .before .before .if2 .left, c .before .before .before .before .before .before .before .prefix-of .ensures, c .before .before .before .before .before .before .prefix-of2 .ensures)))
+    let n = c .before in
+    let a = begun n .args in
+    let p = n .before .before .before .before in
+    let k = sym (p .before .before .before .before .kind-of .ensures) ∙ p .before .before .before .if1 .left in
+    c .equal .ensures ∙ ap₂ sameName (owner-is n) (target-is n)
+    ∙ sym (continues-on (a .r .now) (a .q .now) k (omega (arith, p .if2 .left, p .before .before .prefix-of .ensures, p .before .prefix-of2 .ensures)))
 
 pub is-next-spec : {M : Type 1} → statement M
 is-next-spec =

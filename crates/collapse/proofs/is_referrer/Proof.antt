@@ -1,6 +1,5 @@
--- `collapse::is_referrer` meets its contract: the tests in their order. Assumes nothing.
+-- `collapse::is_referrer` meets its contract: the tests in their order.
 use mathlib.Core.Path.{_≡_, sym, ap, _∙_}
-use mathlib.Core.Bool.{true}
 use Rattle.names.specs.Standard.{sameName, inStandardForm}
 use Rattle.plan.specs.Layout.{prefixOf, targetOf, nameIn}
 use Rattle.plan.proofs.FaultLaws.{targetless-on}
@@ -10,6 +9,16 @@ use Rattle.collapse.proofs.RunningLaws.{refers-other, refers-zero, refe
 use borrow.Author.Needs.{needs}
 use Rattle.collapse.proofs.is_referrer.Statement.{statement}
 use Rattle.collapse.proofs.is_referrer.Tie as tie
+
+-- the name that is compared, once it is at hand
+abbrev begun : tie.After-name-in → tie.Start
+begun c = c .before .before .before .before .before .before .before .before
+
+named : (c : tie.After-name-in) → c .name-in .result .now ≡ targetOf (begun c .args .row .now)
+named c = c .name-in .ensures ∙ ap nameIn (c .before .target-slot .ensures .0)
+
+leads : (c : tie.After-name-in) → prefixOf (begun c .args .row .now) ≡ 0 → ⊥
+leads c z = c .before .before .if2 .left (c .before .before .before .prefix-of .ensures ∙ z)
 
 kind-of-requires : tie.Need-kind-of-requires
 kind-of-requires c κs = search needs
@@ -34,18 +43,17 @@ name-in-requires : tie.Need-name-in-requires
 name-in-requires c κs = search needs
 
 equal-requires : tie.Need-equal-requires
-equal-requires c κs = search needs
+equal-requires c κs =
+    let s = begun c in
+    (ap inStandardForm (named c) ∙ s .pre .0 .good .target (targetless-on (s .args .row .now) (leads c)) .name, s .pre .1)
 
 returns-3 : tie.Need-returns-3
 returns-3 c =
-    let a = c .before .before .before .before .before .before .before .before .before .args in
-    let w = c .before .before .before .before .before .before .before .before .before .pre in
-    let r = a .row .now in
-    let l : prefixOf r ≡ 0 → ⊥ = λ z. c .before .before .before .if2 .left (c .before .before .before .before .prefix-of .ensures ∙ z) in
-    let n : c .before .name-in .result .now ≡ targetOf r = c .before .name-in .ensures ∙ ap nameIn (c .before .before .target-slot .ensures .0) in
-    let p : inStandardForm (c .before .name-in .result .now) ≡ true = ap inStandardForm n ∙ w .0 .good .target (targetless-on r l) .name in
-    let k = sym (c .before .before .before .before .before .before .kind-of .ensures) ∙ c .before .before .before .before .before .if1 .left in
-    c .equal .ensures .1 p (w .1) ∙ ap (λ (m : List ℕ). sameName m (a .name .now)) n ∙ sym (refers-on (a .name .now) r k l)
+    let n = c .before in
+    let a = begun n .args in
+    let p = n .before .before in
+    let k = sym (p .before .before .before .kind-of .ensures) ∙ p .before .before .if1 .left in
+    c .equal .ensures ∙ ap (λ (m : List ℕ). sameName m (a .name .now)) (named n) ∙ sym (refers-on (a .name .now) (a .row .now) k (leads n))
 
 pub is-referrer-spec : {M : Type 1} → statement M
 is-referrer-spec =

@@ -1,6 +1,5 @@
--- `collapse::is_unfinished` meets its contract: the tests in their order. Assumes nothing.
+-- `collapse::is_unfinished` meets its contract: the tests in their order.
 use mathlib.Core.Path.{_≡_, sym, ap, _∙_}
-use mathlib.Core.Bool.{true}
 use Rattle.names.specs.Standard.{sameName, inStandardForm}
 use Rattle.plan.specs.Layout.{ownerOf, nameIn}
 use Prim.Native.Nat.{ℕ}
@@ -9,6 +8,13 @@ use Rattle.collapse.proofs.RunningLaws.{unfinished-other, unfinished-ze
 use borrow.Author.Needs.{needs}
 use Rattle.collapse.proofs.is_unfinished.Statement.{statement}
 use Rattle.collapse.proofs.is_unfinished.Tie as tie
+
+-- the name that is compared, once it is at hand
+abbrev begun : tie.After-name-in → tie.Start
+begun c = c .before .before .before .before .before .before .before .before
+
+named : (c : tie.After-name-in) → c .name-in .result .now ≡ ownerOf (begun c .args .row .now)
+named c = c .name-in .ensures ∙ ap nameIn (c .before .owner-slot .ensures .0)
 
 kind-of-requires : tie.Need-kind-of-requires
 kind-of-requires c κs = search needs
@@ -33,18 +39,16 @@ name-in-requires : tie.Need-name-in-requires
 name-in-requires c κs = search needs
 
 equal-requires : tie.Need-equal-requires
-equal-requires c κs = search needs
+equal-requires c κs = let w = begun c .pre in (ap inStandardForm (named c) ∙ w .0 .good .owner .name, w .1)
 
 returns-3 : tie.Need-returns-3
 returns-3 c =
-    let a = c .before .before .before .before .before .before .before .before .before .args in
-    let w = c .before .before .before .before .before .before .before .before .before .pre in
-    let r = a .row .now in
-    let n : c .before .name-in .result .now ≡ ownerOf r = c .before .name-in .ensures ∙ ap nameIn (c .before .before .owner-slot .ensures .0) in
-    let p : inStandardForm (c .before .name-in .result .now) ≡ true = ap inStandardForm n ∙ w .0 .good .owner .name in
-    let k = sym (c .before .before .before .before .before .before .kind-of .ensures) ∙ c .before .before .before .before .before .if1 .left in
-    c .equal .ensures .1 p (w .1) ∙ ap (λ (m : List ℕ). sameName m (a .name .now)) n
-    ∙ sym (unfinished-on (a .name .now) r k (λ z. c .before .before .before .if2 .left (c .before .before .before .before .prefix-of .ensures ∙ z)))
+    let n = c .before in
+    let a = begun n .args in
+    let p = n .before .before in
+    let k = sym (p .before .before .before .kind-of .ensures) ∙ p .before .before .if1 .left in
+    c .equal .ensures ∙ ap (λ (m : List ℕ). sameName m (a .name .now)) (named n)
+    ∙ sym (unfinished-on (a .name .now) (a .row .now) k (λ z. p .if2 .left (p .before .prefix-of .ensures ∙ z)))
 
 pub is-unfinished-spec : {M : Type 1} → statement M
 is-unfinished-spec =

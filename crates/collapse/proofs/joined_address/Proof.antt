@@ -1,4 +1,4 @@
--- `collapse::joined_address` meets its contract. Assumes nothing.
+-- `collapse::joined_address` meets its contract.
 use mathlib.Core.Path.{_∙_}
 use borrow.Author.Needs.{needs}
 use Rattle.collapse.proofs.joined_address.Statement.{statement}

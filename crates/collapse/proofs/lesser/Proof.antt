@@ -1,4 +1,4 @@
--- `collapse::lesser` meets its contract. Assumes nothing.
+-- `collapse::lesser` meets its contract.
 use mathlib.Core.Path.{sym}
 use native.Mathlib.Omega.{arith}
 use Prim.Native.Nat.{min}

@@ -1,4 +1,4 @@
--- `collapse::link` meets its contract. Assumes nothing.
+-- `collapse::link` meets its contract.
 use mathlib.Core.Path.{ap, _∙_}
 use Rattle.plan.specs.Layout.{ownerSlot}
 use Rattle.collapse.specs.Running.{bucketOf}

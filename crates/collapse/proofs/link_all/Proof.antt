@@ -1,4 +1,4 @@
--- `collapse::link_all` meets its contract: one record more at each turn, from the last to the first. Assumes nothing.
+-- `collapse::link_all` meets its contract: one record more at each turn, from the last to the first.
 use mathlib.Core.Path.{_≡_, refl, sym, subst}
 use native.Mathlib.Omega.{arith}
 use Prim.Native.Nat.{_+_, _-_, _≤_}

@@ -1,4 +1,4 @@
--- `collapse::put` meets its contract. Assumes nothing.
+-- `collapse::put` meets its contract.
 use mathlib.Core.Path.{sym, _∙_}
 use Rattle.collapse.proofs.RunningLaws.{stored-in, stored-out}
 use borrow.Author.Needs.{needs}

@@ -1,4 +1,4 @@
--- `collapse::put_joined` meets its contract. Assumes nothing.
+-- `collapse::put_joined` meets its contract.
 use Prim.Native.Nat.{ℕ, _*_}
 use mathlib.Core.Path.{sym, ap, _∙_}
 use mathlib.Core.List.{List}
@@ -10,6 +10,9 @@ use Rattle.collapse.proofs.RunningLaws.{stored-in, stored-out}
 use borrow.Author.Needs.{needs}
 use Rattle.collapse.proofs.put_joined.Statement.{statement}
 use Rattle.collapse.proofs.put_joined.Tie as tie
+
+abbrev begun : tie.Then1 → tie.Start
+begun c = c .before .before .before
 
 joined-address-requires : tie.Need-joined-address-requires
 joined-address-requires c κs = search needs
@@ -43,15 +46,25 @@ same-length c = search needs
 
 returns : tie.Need-returns
 returns c =
-    let a = c .before .before .before .before .before .before .before .before .before .before .before .before .before .before .args in
-    let t = a .table .now in
-    let r = recordAt t (a .i) in
-    let q = recordAt t (a .j) in
-    let e = joined-is r q _ _ _ _ _ (c .before .before .before .before .prefix .ensures) (c .before .before .before .before .before .before .before .before .before .before .joined-address .ensures) (c .before .before .before .before .before .before .before .owner-slot .ensures .0 ∙ ap ownerSlot (c .before .before .before .before .before .before .before .before .row .ensures .0)) (c .before .before .before .before .before .target-slot .ensures .0 ∙ ap targetSlot (c .before .before .before .before .before .before .row2 .ensures .0)) (c .before .before .before .before .before .before .before .before .before .joined-ttl .ensures) in
-    c .before .before .write-a6 .ensures ∙ ap (λ (s : List ℕ). paste (a .out .now) (a .n * recordSize) s recordSize) e ∙ sym (stored-in (a .out .now) (a .n) (joinedOf r q) (c .before .before .before .before .before .before .before .before .before .before .before .if1 .taken))
+    let prefixed = c .before .before .before .before in
+    let target = prefixed .before in
+    let owner = target .before .before in
+    let lived = owner .before .before in
+    let addressed = lived .before in
+    let a = begun (addressed .before) .args in
+    let r = recordAt (a .table .now) (a .i) in
+    let q = recordAt (a .table .now) (a .j) in
+    let e =
+    joined-is r q _ _ _ _ _ (prefixed .prefix .ensures) (addressed .joined-address .ensures) (owner .owner-slot .ensures .0 ∙ ap ownerSlot (owner .before .row .ensures .0))
+    (target .target-slot .ensures .0 ∙ ap targetSlot (target .before .row2 .ensures .0)) (lived .joined-ttl .ensures)
+    in
+    c .before .before .write-a6 .ensures ∙ ap (λ (s : List ℕ). paste (a .out .now) (a .n * recordSize) s recordSize) e
+    ∙ sym (stored-in (a .out .now) (a .n) (joinedOf r q) (addressed .before .if1 .taken))
 
 returns-2 : tie.Need-returns-2
-returns-2 c = let a = c .before .before .before .args in sym (stored-out (a .out .now) (a .n) (joinedOf (recordAt (a .table .now) (a .i)) (recordAt (a .table .now) (a .j))) (c .if1 .left))
+returns-2 c =
+    let a = c .before .before .before .args in
+    sym (stored-out (a .out .now) (a .n) (joinedOf (recordAt (a .table .now) (a .i)) (recordAt (a .table .now) (a .j))) (c .if1 .left))
 
 pub put-joined-spec : {M : Type 1} → statement M
 put-joined-spec =

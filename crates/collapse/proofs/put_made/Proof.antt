@@ -1,5 +1,7 @@
--- `collapse::put_made` meets its contract. Assumes nothing.
-use mathlib.Core.Path.{sym, ap₂, _∙_}
+-- `collapse::put_made` meets its contract.
+use mathlib.Core.Path.{_≡_, sym, ap₂, _∙_}
+use mathlib.Core.List.{List}
+use Prim.Native.Nat.{ℕ}
 use native.Mathlib.Omega.{arith}
 use borrow.Author.Tests.{not-true, not-false}
 use Rattle.plan.specs.Layout.{recordAt}
@@ -10,6 +12,20 @@ use borrow.Author.Needs.{needs}
 use Rattle.collapse.proofs.put_made.Statement.{statement}
 use Rattle.collapse.proofs.put_made.Tie as tie
 
+-- ---- what is known where the record is tested, `tie.After-is-next`
+abbrev begun : tie.After-row2 → tie.Start
+begun c = c .before .before .before .before
+
+abbrev near : tie.After-row2 → List ℕ
+near c = recordAt (begun c .args .table .now) (begun c .args .i)
+
+abbrev far : tie.After-row2 → List ℕ
+far c = recordAt (begun c .args .table .now) (begun c .args .j)
+
+tested : (c : tie.After-is-next) → c .is-next .result ≡ continues (near (c .before)) (far (c .before))
+tested c = c .is-next .ensures ∙ ap₂ continues (c .before .before .row .ensures .0) (c .before .row2 .ensures .0)
+
+-- ---- and what it owes
 row-requires : tie.Need-row-requires
 row-requires c κs = search needs
 
@@ -18,16 +34,16 @@ row-requires-2 c κs = search needs
 
 is-next-requires : tie.Need-is-next-requires
 is-next-requires c κs =
-    let a = c .before .before .before .before .args in
-    let w = c .before .before .before .before .pre in
+    let a = begun c .args in
+    let w = begun c .pre in
     let o = fit (a .table .now) (w .0) in
     (rw (c .before .row .ensures .0) (o (a .i) (w .1)), rw (c .row2 .ensures .0) (o (a .j) (w .4)), rw (c .before .row .ensures .0) (w .2))
 
 returns : tie.Need-returns
 returns c =
-    let a = c .before .before .before .before .before .before .args in
-    let t = a .table .now in
-    let e = made-off t (recordAt t (a .i)) (a .j) (sym (ap₂ continues (c .before .before .before .row .ensures .0) (c .before .before .row2 .ensures .0)) ∙ sym (c .before .is-next .ensures) ∙ not-true (c .before .is-next .result) (c .if1 .taken)) in
+    let k = c .before in
+    let a = begun (k .before) .args in
+    let e = made-off (a .table .now) (near (k .before)) (a .j) (sym (tested k) ∙ not-true (k .is-next .result) (c .if1 .taken)) in
     (rw e (omega arith), rw e (sym (stored-none (a .out .now) (a .n))))
 
 put-joined-requires : tie.Need-put-joined-requires
@@ -41,10 +57,11 @@ same-length c = search needs
 
 returns-2 : tie.Need-returns-2
 returns-2 c =
-    let a = c .before .before .before .before .before .before .before .before .before .before .args in
-    let t = a .table .now in
-    let e = made-on t (recordAt t (a .i)) (a .j) (sym (ap₂ continues (c .before .before .before .before .before .before .before .row .ensures .0) (c .before .before .before .before .before .before .row2 .ensures .0)) ∙ sym (c .before .before .before .before .before .is-next .ensures) ∙ not-false (c .before .before .before .before .before .is-next .result) (c .before .before .before .before .if1 .left)) in
-    (rw e (omega arith), rw e (c .before .before .put-joined .ensures ∙ sym (stored-one (a .out .now) (a .n) (joinedOf (recordAt t (a .i)) (recordAt t (a .j))))))
+    let on = c .before .before .before .before in
+    let k = on .before in
+    let a = begun (k .before) .args in
+    let e = made-on (a .table .now) (near (k .before)) (a .j) (sym (tested k) ∙ not-false (k .is-next .result) (on .if1 .left)) in
+    (rw e (omega arith), rw e (c .before .before .put-joined .ensures ∙ sym (stored-one (a .out .now) (a .n) (joinedOf (near (k .before)) (far (k .before))))))
 
 pub put-made-spec : {M : Type 1} → statement M
 put-made-spec =

@@ -1,4 +1,4 @@
--- `collapse::put_place` meets its contract. Assumes nothing.
+-- `collapse::put_place` meets its contract.
 use mathlib.Core.Path.{sym, ap, _∙_}
 use native.Mathlib.Omega.{arith}
 use Rattle.plan.specs.Layout.{recordAt}

@@ -1,4 +1,4 @@
--- `collapse::survey` meets its contract: each turn looks at one more record. Assumes nothing.
+-- `collapse::survey` meets its contract: each turn looks at one more record.
 use mathlib.Core.Path.{_≡_, refl, ap, _∙_}
 use Prim.Native.Nat.{_-_, _≤_}
 use native.Mathlib.Omega.{arith}

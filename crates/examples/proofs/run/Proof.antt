@@ -1,4 +1,4 @@
--- `examples::run` keeps the size of the plan within the table. Assumes nothing.
+-- `examples::run` keeps the size of the plan within the table.
 use Prim.Native.Nat.{_+_, _-_, _≤_}
 use mathlib.Core.Path.{_≡_}
 use lib.ListN.{length}

@@ -1,4 +1,4 @@
--- `forward::look` meets its contract: the arrays are the table's records, renamed. Assumes nothing.
+-- `forward::look` meets its contract: the arrays are the table's records, renamed.
 use Prim.Native.Nat.{ℕ, _/_}
 use mathlib.Core.Path.{_≡_, ap, _∙_, sym}
 use mathlib.Core.List.{List}

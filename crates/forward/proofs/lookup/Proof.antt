@@ -1,48 +1,109 @@
--- `forward::lookup` meets its contract: each refusal is one law, and the search of the standard form answers for the name. Assumes nothing.
-use Prim.Native.Nat.{ℕ, _/_, _%_, _≤_}
+-- `forward::lookup` meets its contract: each refusal is one law, and the search of the standard form answers for the name.
+use Prim.Native.Nat.{ℕ, _≤_}
 use mathlib.Core.Path.{_≡_, ap, _∙_, sym}
-use mathlib.Core.Bool.{true}
+use mathlib.Core.Bool.{true, false}
+use mathlib.Core.List.{List}
 use lib.ListN.{length, take}
 use lib.Seq.{length-take-le}
 use native.Mathlib.Omega.{arith}
-use Rattle.names.proofs.NameLaws.{held-some, held-none, held-name}
+use borrow.Author.Needs.{needs}
 use Rattle.octets.specs.Octets.{blank, Small}
-use Rattle.octets.specs.declared.Answer.{Answer}
-use Rattle.names.specs.declared.Name.{Name}
+use Rattle.octets.proofs.AnswerLaws.{not-nought, refused-answer, refused-out}
 use Rattle.labels.specs.Scan.{wellFormed}
 use Rattle.names.specs.Standard.{standardOf}
-use Rattle.names.specs.Name.{heldOf}
-use Rattle.names.proofs.RoundLaws.{standard-formed, standard-again}
-use Rattle.names.proofs.StandardLaws.{standard-in}
-use Rattle.plan.specs.Check.{checkOf}
-use Rattle.plan.proofs.OrderLaws.{number-answer}
-use Rattle.forward.proofs.LookupLaws.{lookup-table, lookup-name, lookup-size, lookup-room, lookup-refused, lookup-refusing, lookup-answered, lookup-written, lookup-lasting}
-use borrow.Author.Needs.{needs}
+use Rattle.names.proofs.NameLaws.{held-part, held-standard}
+use Rattle.plan.specs.Check.{entryNumber, InOrder}
+use Rattle.plan.proofs.EntryLaws.{entry-zero}
+use Rattle.forward.specs.Lookup.{misfit, lookupNumber}
+use Rattle.forward.proofs.LookupLaws.{lookup-entry, lookup-misfit, lookup-answered, lookup-written, lookup-lasting, misfit-not}
 use Rattle.forward.proofs.lookup.Statement.{statement}
 use Rattle.forward.proofs.lookup.Tie as tie
 
--- the number of the check
-checked : (c : tie.After-check) → c .check .result .number ≡ checkOf (c .before .before .before .before .before .before .before .before .before .before .before .before .before .args .table .now)
-checked c = ap (λ (r : Answer). r .number) (c .check .ensures) ∙ number-answer (c .before .before .before .before .before .before .before .before .before .before .before .before .before .args .table .now)
+-- ---- where the table and the name were taken: the way back to the start, what was handed in, and what is known
+abbrev Taken : Type 0
+Taken = tie.After-wide
 
--- the length of the name that is held, and its octets
-held-length : (c : tie.After-wide) → c .wide .result ≡ heldOf (c .before .before .before .before .before .before .before .before .before .before .before .before .before .before .before .before .before .args .name .now) .length
-held-length c = c .wide .ensures .0 ∙ ap (λ (n : Name). n .length) (c .before .before .hold .ensures)
+abbrev begun : Taken → tie.Start
+begun c = c .before .before .before .before .before .before .before .before .before .before .before .before .before .before .before .before
 
-fits : (c : tie.After-wide) → c .wide .result ≤ length (c .before .before .hold .result .octets)
-fits c = let l : length (c .before .before .hold .result .octets) ≡ 255 = search needs in omega (arith, c .wide .ensures .1)
+abbrev table : Taken → List ℕ
+table c = begun c .args .table .now
 
-part : (c : tie.After-wide) → wellFormed (c .before .before .before .before .before .before .before .before .before .before .before .before .before .before .before .before .before .args .name .now) ≡ true → take (c .wide .result) (c .before .before .hold .result .octets) ≡ standardOf (c .before .before .before .before .before .before .before .before .before .before .before .before .before .before .before .before .before .args .name .now)
-part c w = rw (held-length c, c .before .before .hold .ensures) (held-name (c .before .before .before .before .before .before .before .before .before .before .before .before .before .before .before .before .before .args .name .now) w)
+abbrev name : Taken → List ℕ
+name c = begun c .args .name .now
 
+abbrev size : Taken → ℕ
+size c = length (begun c .args .out .now)
+
+abbrev room : Taken → ℕ
+room c = length (begun c .args .ttls .now)
+
+abbrev number : Taken → ℕ
+number c = lookupNumber (table c) (name c) (begun c .args .limit) (size c) (room c)
+
+small : (c : Taken) → Small (name c)
+small c i = omega (arith, c .before .before .before .before .before .before .before .before .before .before .before .before .before .before .shared-slice-known2 .given i)
+
+-- the lists, cleared
+abbrev out : Taken → List ℕ
+out c = c .before .before .before .before .before .before .before .before .before .before .clear .last .0
+
+abbrev ttls : Taken → List ℕ
+ttls c = c .before .before .before .before .before .before .clear2 .last .0
+
+record Blank (c : Taken) : Type 0 where
+  zeros : out c ≡ blank (size c)
+  long : length (out c) ≡ size c
+  noughts : ttls c ≡ blank (room c)
+  lasting : length (ttls c) ≡ room c
+
+blanked : (c : Taken) → Blank c
+blanked c =
+    let o = c .before .before .before .before .before .before .before .before .before .before .clear in
+    let l = c .before .before .before .before .before .before .clear2 in
+    record { zeros = o .ensures; long = o .kept .0; noughts = l .ensures; lasting = l .kept .0 }
+
+-- what both earned, and the name that is held
+earned : (c : Taken) → c .before .before .before .enter .result .number ≡ entryNumber (table c) (name c)
+earned c = c .before .before .before .enter .ensures .0
+
+abbrev octets : Taken → List ℕ
+octets c = c .before .before .before .enter .result .name .octets
+
+fits : (c : Taken) → c .wide .result ≤ length (octets c)
+fits c = let l : length (octets c) ≡ 255 = search needs in omega (arith, c .wide .ensures .1)
+
+part : (c : Taken) → wellFormed (name c) ≡ true → take (c .wide .result) (octets c) ≡ standardOf (name c)
+part c w = let h = c .before .before .before .enter in held-part (name c) (h .result .name) (c .wide .result) (h .ensures .1) (c .wide .ensures .0) w
+
+-- ---- where the tests are passed: the table is in order, the name well formed, and both lists fit
+abbrev Passed : Type 0
+Passed = tie.Else2
+
+abbrev taken : Passed → Taken
+taken c = c .before .before .before
+
+sound : (c : Passed) → InOrder (table (taken c)) × (wellFormed (name (taken c)) ≡ true)
+sound c = entry-zero (table (taken c)) (name (taken c)) (sym (earned (taken c)) ∙ c .before .before .if1 .left)
+
+misfit-is : (c : tie.After-is-misfit) → c .is-misfit .result ≡ misfit (size (c .before .before)) (room (c .before .before))
+misfit-is c = let b = blanked (c .before .before) in c .is-misfit .ensures ∙ λ i. misfit (b .long i) (b .lasting i)
+
+fitting : (c : Passed) → misfit (size (taken c)) (room (taken c)) ≡ false
+fitting c = sym (misfit-is (c .before)) ∙ c .if2 .left
+
+-- ---- what it owes
 clear-requires : tie.Need-clear-requires
 clear-requires c κs = search needs
 
 clear-requires-2 : tie.Need-clear-requires-2
 clear-requires-2 c κs = search needs
 
-check-requires : tie.Need-check-requires
-check-requires c κs = search needs
+enter-requires : tie.Need-enter-requires
+enter-requires c κs = search needs
+
+wide-requires : tie.Need-wide-requires
+wide-requires c κs = search needs
 
 refused-requires : tie.Need-refused-requires
 refused-requires c κs = search needs
@@ -55,19 +116,14 @@ same-length-2 c = search needs
 
 returns : tie.Need-returns
 returns c =
-    let a = c .before .before .before .before .before .before .before .before .before .before .before .before .before .before .before .args in
-    let size = length (a .out .now) in
-    let room = length (a .ttls .now) in
-    let e = checked (c .before .before) in
-    let p = lookup-refusing (a .table .now) (a .name .now) (a .limit) size room (c .before .before .check .result .number) (c .before .if1 .taken)
-    (lookup-table (a .table .now) (a .name .now) (a .limit) size room (λ h. c .before .if1 .taken (e ∙ h)) ∙ sym e) in
-    (c .refused .ensures ∙ p .0, (c .before .before .before .before .before .before .before .before .before .clear .ensures ∙ p .1, c .before .before .before .before .before .clear2 .ensures ∙ p .2))
+    let k = c .before .before in
+    let t = c .before .if1 .taken in
+    let n = k .before .before .before .enter .result .number in
+    let e : n ≡ number k = earned k ∙ sym (lookup-entry (table k) (name k) (begun k .args .limit) (size k) (room k) (λ h. t (earned k ∙ h))) in
+    (c .refused .ensures ∙ refused-answer n _ e t _ _, (blanked k .zeros ∙ refused-out n _ e t _ (size k), blanked k .noughts ∙ refused-out n _ e t _ (room k)))
 
-hold-requires : tie.Need-hold-requires
-hold-requires c κs = search needs
-
-wide-requires : tie.Need-wide-requires
-wide-requires c κs = search needs
+is-misfit-requires : tie.Need-is-misfit-requires
+is-misfit-requires c κs = search needs
 
 refused-requires-2 : tie.Need-refused-requires-2
 refused-requires-2 c κs = search needs
@@ -80,16 +136,28 @@ same-length-4 c = search needs
 
 returns-2 : tie.Need-returns-2
 returns-2 c =
-    let a = c .before .before .before .before .before .before .before .before .before .before .before .before .before .before .before .before .before .before .before .args in
-    let size = length (a .out .now) in
-    let room = length (a .ttls .now) in
-    let o : checkOf (a .table .now) ≡ 0 = sym (checked (c .before .before .before .before .before .before)) ∙ c .before .before .before .before .before .if1 .left in
-    let w = held-none (a .name .now) (λ i. omega (arith, c .before .before .before .before .before .before .before .before .before .before .before .before .before .before .before .before .before .shared-slice-known2 .given i)) (sym (held-length (c .before .before)) ∙ c .before .if2 .taken) in
-    let p = lookup-refused (a .table .now) (a .name .now) (a .limit) size room 3 (lookup-name (a .table .now) (a .name .now) (a .limit) size room o w) in
-    (c .refused2 .ensures ∙ p .0, (c .before .before .before .before .before .before .before .before .before .before .before .before .before .clear .ensures ∙ p .1, c .before .before .before .before .before .before .before .before .before .clear2 .ensures ∙ p .2))
+    let m = c .before .before in
+    let k = m .before .before in
+    let o = sym (earned k) ∙ m .before .if1 .left in
+    let e = sym (lookup-misfit (table k) (name k) (begun k .args .limit) (size k) (room k) o (sym (misfit-is m) ∙ c .before .if2 .taken)) in
+    (c .refused2 .ensures ∙ refused-answer 5 _ e (not-nought 4) _ _, (blanked k .zeros ∙ refused-out 5 _ e (not-nought 4) _ (size k), blanked k .noughts ∙ refused-out 5 _ e (not-nought 4) _ (room k)))
 
-refused-requires-3 : tie.Need-refused-requires-3
-refused-requires-3 c κs = search needs
+array-share-prefix-octets : tie.Need-array-share-prefix-octets
+array-share-prefix-octets c = fits (taken c)
+
+slice-aggregate-look : tie.Need-slice-aggregate-look
+slice-aggregate-look c = let k = taken (c .before) in sym (length-take-le (k .wide .result) (octets k) (fits k))
+
+look-requires : tie.Need-look-requires
+look-requires c κs =
+    let p = c .before .before .before in
+    let k = taken p in
+    let b = blanked k in
+    let w = sound p .1 in
+    let f = misfit-not (size k) (room k) (fitting p) in (
+      (sound p .0, rw (part k w) (held-standard (name k) (small k) w)),
+      (omega (arith, f, b .long), b .zeros ∙ ap blank (sym (b .long)), omega (arith, f, b .long, b .lasting), b .noughts ∙ ap blank (sym (b .lasting))),
+    )
 
 same-length-5 : tie.Need-same-length-5
 same-length-5 c = search needs
@@ -99,76 +167,17 @@ same-length-6 c = search needs
 
 returns-3 : tie.Need-returns-3
 returns-3 c =
-    let a = c .before .before .before .before .before .before .before .before .before .before .before .before .before .before .before .before .before .before .before .before .args in
-    let size = length (a .out .now) in
-    let room = length (a .ttls .now) in
-    let o : checkOf (a .table .now) ≡ 0 = sym (checked (c .before .before .before .before .before .before .before)) ∙ c .before .before .before .before .before .before .if1 .left in
-    let w = held-some (a .name .now) (λ h. c .before .before .if2 .left (held-length (c .before .before .before) ∙ h)) in
-    let z : size % 16 ≡ 0 → ⊥ = λ h. c .before .if3 .taken (ap (λ (k : ℕ). k % 16) (c .before .before .before .before .before .before .before .before .before .before .before .before .before .before .clear .kept .0) ∙ h) in
-    let p = lookup-refused (a .table .now) (a .name .now) (a .limit) size room 4 (lookup-size (a .table .now) (a .name .now) (a .limit) size room o w z) in
-    (c .refused3 .ensures ∙ p .0, (c .before .before .before .before .before .before .before .before .before .before .before .before .before .before .clear .ensures ∙ p .1, c .before .before .before .before .before .before .before .before .before .before .clear2 .ensures ∙ p .2))
-
-refused-requires-4 : tie.Need-refused-requires-4
-refused-requires-4 c κs = search needs
-
-same-length-7 : tie.Need-same-length-7
-same-length-7 c = search needs
-
-same-length-8 : tie.Need-same-length-8
-same-length-8 c = search needs
-
-returns-4 : tie.Need-returns-4
-returns-4 c =
-    let a = c .before .before .before .before .before .before .before .before .before .before .before .before .before .before .before .before .before .before .before .before .before .args in
-    let size = length (a .out .now) in
-    let room = length (a .ttls .now) in
-    let o : checkOf (a .table .now) ≡ 0 = sym (checked (c .before .before .before .before .before .before .before .before)) ∙ c .before .before .before .before .before .before .before .if1 .left in
-    let w = held-some (a .name .now) (λ h. c .before .before .before .if2 .left (held-length (c .before .before .before .before) ∙ h)) in
-    let z : size % 16 ≡ 0 = ap (λ (k : ℕ). k % 16) (sym (c .before .before .before .before .before .before .before .before .before .before .before .before .before .before .before .clear .kept .0)) ∙ c .before .before .if3 .left in
-    let n : room ≡ size / 16 → ⊥ = λ h. c .before .if4 .taken (c .before .before .before .before .before .before .before .before .before .before .before .clear2 .kept .0 ∙ h ∙ ap (λ (k : ℕ). k / 16) (sym (c .before .before .before .before .before .before .before .before .before .before .before .before .before .before .before .clear .kept .0))) in
-    let p = lookup-refused (a .table .now) (a .name .now) (a .limit) size room 4 (lookup-room (a .table .now) (a .name .now) (a .limit) size room o w z n) in
-    (c .refused4 .ensures ∙ p .0, (c .before .before .before .before .before .before .before .before .before .before .before .before .before .before .before .clear .ensures ∙ p .1, c .before .before .before .before .before .before .before .before .before .before .before .clear2 .ensures ∙ p .2))
-
-array-share-prefix-octets : tie.Need-array-share-prefix-octets
-array-share-prefix-octets c = fits (c .before .before .before)
-
-slice-aggregate-look : tie.Need-slice-aggregate-look
-slice-aggregate-look c = sym (length-take-le (c .before .before .before .before .wide .result) (c .before .before .before .before .before .before .hold .result .octets) (fits (c .before .before .before .before)))
-
-look-requires : tie.Need-look-requires
-look-requires c κs =
-    let a = c .before .before .before .before .before .before .before .before .before .before .before .before .before .before .before .before .before .before .before .before .before .before .before .args in
-    let o : checkOf (a .table .now) ≡ 0 = sym (checked (c .before .before .before .before .before .before .before .before .before .before)) ∙ c .before .before .before .before .before .before .before .before .before .if1 .left in
-    let s : Small (a .name .now) = λ i. omega (arith, c .before .before .before .before .before .before .before .before .before .before .before .before .before .before .before .before .before .before .before .before .before .shared-slice-known2 .given i) in
-    let w = held-some (a .name .now) (λ h. c .before .before .before .before .before .if2 .left (held-length (c .before .before .before .before .before .before) ∙ h)) in
-    let k : length (c .before .before .before .before .before .before .before .before .before .before .before .before .before .before .before .before .before .clear .last .0) ≡ length (a .out .now) = c .before .before .before .before .before .before .before .before .before .before .before .before .before .before .before .before .before .clear .kept .0 in (
-      (o, rw (part (c .before .before .before .before .before .before) w) (standard-in (standardOf (a .name .now)) (standard-formed (a .name .now) s w) (standard-again (a .name .now) s w))),
-      (c .before .before .before .before .if3 .left, c .before .before .before .before .before .before .before .before .before .before .before .before .before .before .before .before .before .clear .ensures ∙ ap blank (sym k), omega (arith, c .before .before .before .before .if3 .left, c .before .before .before .if4 .left), c .before .before .before .before .before .before .before .before .before .before .before .before .before .clear2 .ensures ∙ ap blank (sym (c .before .before .before .before .before .before .before .before .before .before .before .before .before .clear2 .kept .0))),
-    )
-
-same-length-9 : tie.Need-same-length-9
-same-length-9 c = search needs
-
-same-length-10 : tie.Need-same-length-10
-same-length-10 c = search needs
-
-returns-5 : tie.Need-returns-5
-returns-5 c =
-    let a = c .before .before .before .before .before .before .before .before .before .before .before .before .before .before .before .before .before .before .before .before .before .before .before .before .before .before .before .before .args in
-    let size = length (a .out .now) in
-    let room = length (a .ttls .now) in
-    let o : checkOf (a .table .now) ≡ 0 = sym (checked (c .before .before .before .before .before .before .before .before .before .before .before .before .before .before .before)) ∙ c .before .before .before .before .before .before .before .before .before .before .before .before .before .before .if1 .left in
-    let s : Small (a .name .now) = λ i. omega (arith, c .before .before .before .before .before .before .before .before .before .before .before .before .before .before .before .before .before .before .before .before .before .before .before .before .before .before .shared-slice-known2 .given i) in
-    let w = held-some (a .name .now) (λ h. c .before .before .before .before .before .before .before .before .before .before .if2 .left (held-length (c .before .before .before .before .before .before .before .before .before .before .before) ∙ h)) in
-    let k : length (c .before .before .before .before .before .before .before .before .before .before .before .before .before .before .before .before .before .before .before .before .before .before .clear .last .0) ≡ size = c .before .before .before .before .before .before .before .before .before .before .before .before .before .before .before .before .before .before .before .before .before .before .clear .kept .0 in
-    let z : size % 16 ≡ 0 = ap (λ (n : ℕ). n % 16) (sym k) ∙ c .before .before .before .before .before .before .before .before .before .if3 .left in
-    let m : length (c .before .before .before .before .before .before .before .before .before .before .before .before .before .before .before .before .before .before .clear2 .last .0) ≡ room = c .before .before .before .before .before .before .before .before .before .before .before .before .before .before .before .before .before .before .clear2 .kept .0 in
-    let n : room ≡ size / 16 = sym m ∙ c .before .before .before .before .before .before .before .before .if4 .left ∙ ap (λ (v : ℕ). v / 16) k in
-    let e = rw (part (c .before .before .before .before .before .before .before .before .before .before .before) w, k) at (c .before .before .before .before .look .ensures) in (
-      e .0 ∙ lookup-answered (a .table .now) (a .name .now) (a .limit) size room o s w z n,
+    let l = c .before .before .before .before in
+    let p = l .before .before .before .before in
+    let k = taken p in
+    let a = begun k .args in
+    let o = sym (earned k) ∙ p .before .before .if1 .left in
+    let n = misfit-not (size k) (room k) (fitting p) .1 in
+    let e = rw (part k (sound p .1), blanked k .long) at (l .look .ensures) in (
+      e .0 ∙ lookup-answered (table k) (name k) (a .limit) (size k) (room k) o (small k) (fitting p) n,
       (
-        e .1 .0 ∙ lookup-written (a .table .now) (a .name .now) (a .limit) size room o s w z n,
-        e .1 .1 ∙ lookup-lasting (a .table .now) (a .name .now) (a .limit) size room o s w z n,
+        e .1 .0 ∙ lookup-written (table k) (name k) (a .limit) (size k) (room k) o (small k) (fitting p) n,
+        e .1 .1 ∙ lookup-lasting (table k) (name k) (a .limit) (size k) (room k) o (small k) (fitting p) n,
       ),
     )
 
@@ -178,28 +187,20 @@ lookup-spec =
     (tie.spec
     clear-requires
     clear-requires-2
-    check-requires
+    enter-requires
+    wide-requires
     refused-requires
     same-length
     same-length-2
     returns
-    hold-requires
-    wide-requires
+    is-misfit-requires
     refused-requires-2
     same-length-3
     same-length-4
     returns-2
-    refused-requires-3
-    same-length-5
-    same-length-6
-    returns-3
-    refused-requires-4
-    same-length-7
-    same-length-8
-    returns-4
     array-share-prefix-octets
     slice-aggregate-look
     look-requires
-    same-length-9
-    same-length-10
-    returns-5)
+    same-length-5
+    same-length-6
+    returns-3)

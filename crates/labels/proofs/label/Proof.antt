@@ -1,4 +1,4 @@
--- `labels::label` meets its contract: each return is one law of a label. Assumes nothing.
+-- `labels::label` meets its contract: each return is one law of a label.
 use Prim.Native.Nat.{_+_, _-_, _<_}
 use mathlib.Core.Path.{_≡_, _∙_, sym}
 use lib.ListN.{length, getD, drop, length-drop}

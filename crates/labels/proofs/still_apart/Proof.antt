@@ -1,4 +1,4 @@
--- `labels::still_apart` meets its contract. Assumes nothing.
+-- `labels::still_apart` meets its contract.
 use mathlib.Core.Path.{sym}
 use Rattle.labels.proofs.ScanLaws.{apart-first, apart-other, apart-broken}
 use Rattle.labels.proofs.still_apart.Statement.{statement}

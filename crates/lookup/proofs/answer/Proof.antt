@@ -1,4 +1,4 @@
--- `lookup::answer` reads the slot within the input, and ends. Assumes nothing.
+-- `lookup::answer` reads the slot within the input, and ends.
 use mathlib.Core.Path.{sym}
 use lib.Seq.{length-take-le}
 use native.Mathlib.Omega.{arith}

@@ -1,4 +1,4 @@
--- `lookup::write_line` ends. Assumes nothing.
+-- `lookup::write_line` ends.
 use Prim.Native.Nat.{_≤_, _-_}
 use borrow.Author.Needs.{needs}
 use Rattle.lookup.proofs.write_line.Statement.{statement}

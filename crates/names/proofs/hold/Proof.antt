@@ -1,4 +1,4 @@
--- `names::hold` meets its contract: the value's parts are what `standard_form` writes and answers. Assumes nothing.
+-- `names::hold` meets its contract: the value's parts are what `standard_form` writes and answers.
 use mathlib.Core.Path.{ap}
 use native.Mathlib.Omega.{arith}
 use borrow.Author.Needs.{needs}

@@ -1,4 +1,4 @@
--- `names::is_standard` meets its contract: the scan tells all. Assumes nothing.
+-- `names::is_standard` meets its contract: the scan tells all.
 use mathlib.Core.Path.{ap, _∙_, sym}
 use Rattle.labels.specs.declared.Scanned.{Scanned}
 use Rattle.names.proofs.AnswerLaws.{form-number, form-used, form-good}

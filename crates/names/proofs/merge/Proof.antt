@@ -1,4 +1,4 @@
--- `names::merge` meets its contract: what is written and the rest of the name give the standard form. Assumes nothing.
+-- `names::merge` meets its contract: what is written and the rest of the name give the standard form.
 use Prim.Native.Nat.{_-_}
 use mathlib.Core.Path.{_≡_, refl, _∙_, sym}
 use lib.ListN.{length}

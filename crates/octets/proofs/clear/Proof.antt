@@ -1,4 +1,4 @@
--- `octets::clear` meets its contract. Assumes nothing.
+-- `octets::clear` meets its contract.
 use Prim.Native.Nat.{_-_, _≤_}
 use mathlib.Core.Path.{_≡_, refl}
 use mathlib.Core.List.{_++_, append-nil}

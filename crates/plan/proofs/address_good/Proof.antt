@@ -1,4 +1,4 @@
--- `plan::address_good` meets its contract. Assumes nothing.
+-- `plan::address_good` meets its contract.
 use mathlib.Core.Path.{_∙_, sym}
 use Rattle.plan.proofs.FaultLaws.{address-a6, address-other}
 use borrow.Author.Needs.{needs}

@@ -1,4 +1,4 @@
--- `plan::check` meets its contract. Assumes nothing.
+-- `plan::check` meets its contract.
 use borrow.Author.Needs.{needs}
 use native.Mathlib.Omega.{arith}
 use mathlib.Core.Path.{_∙_}

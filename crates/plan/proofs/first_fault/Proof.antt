@@ -1,4 +1,4 @@
--- `plan::first_fault` meets its contract: none of the records passed is at fault. Assumes nothing.
+-- `plan::first_fault` meets its contract: none of the records passed is at fault.
 use borrow.Author.Needs.{needs}
 use native.Mathlib.Omega.{arith}
 use mathlib.Core.Path.{_≡_, ap, _∙_, sym}

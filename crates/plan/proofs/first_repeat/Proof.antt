@@ -1,4 +1,4 @@
--- `plan::first_repeat` meets its contract: none of the records passed repeats an owner, and their marks are at hand. Assumes nothing.
+-- `plan::first_repeat` meets its contract: none of the records passed repeats an owner, and their marks are at hand.
 use borrow.Author.Needs.{needs}
 use native.Mathlib.Omega.{arith}
 use mathlib.Core.Path.{_≡_, refl, ap, _∙_, sym}

@@ -1,4 +1,4 @@
--- `plan::has_mark` meets its contract: it was met so far, or is among what is left. Assumes nothing.
+-- `plan::has_mark` meets its contract: it was met so far, or is among what is left.
 use native.Mathlib.Omega.{arith}
 use mathlib.Core.Path.{_≡_, refl, ap, _∙_, sym}
 use Prim.Native.Nat.{_+_, _-_, _≤_}

@@ -1,4 +1,4 @@
--- `plan::has_twin` meets its contract: none of the records passed is a twin. Assumes nothing.
+-- `plan::has_twin` meets its contract: none of the records passed is a twin.
 use native.Mathlib.Omega.{arith}
 use native.Mathlib.Nat.{sub-zero}
 use mathlib.Core.Path.{_≡_, ap, _∙_, sym}

@@ -1,4 +1,4 @@
--- `plan::is_twin` meets its contract: names with other marks are other names. Assumes nothing.
+-- `plan::is_twin` meets its contract: names with other marks are other names.
 use borrow.Author.Needs.{needs}
 use native.Mathlib.Omega.{arith}
 use mathlib.Core.Path.{_≡_, ap, _∙_, sym}
@@ -10,6 +10,16 @@ use Rattle.plan.proofs.OrderLaws.{sound-owner}
 use Rattle.plan.proofs.MarkLaws.{twin-other, twin-dname, twin-not}
 use Rattle.plan.proofs.is_twin.Statement.{statement}
 use Rattle.plan.proofs.is_twin.Tie as tie
+
+-- both owners that are compared are in standard form
+standing : (c : tie.After-owner2) → (inStandardForm (c .before .owner .result .now) ≡ true) × (inStandardForm (c .owner2 .result .now) ≡ true)
+standing c =
+    let s = c .before .before .before .before .before .before .before .before in
+    let t = s .args .table .now in
+    let w = s .pre .0 in (
+      ap inStandardForm (c .before .owner .ensures) ∙ sound-owner t (w .sound) (s .args .i) (omega (arith, w .here, s .pre .1 .0)),
+      ap inStandardForm (c .owner2 .ensures) ∙ sound-owner t (w .sound) (s .args .j) (w .here),
+    )
 
 mul-if1 : tie.Need-mul-if1
 mul-if1 c = search needs
@@ -37,17 +47,14 @@ owner-requires-2 : tie.Need-owner-requires-2
 owner-requires-2 c κs = search needs
 
 equal-requires : tie.Need-equal-requires
-equal-requires c κs = search needs
+equal-requires c κs = standing c
 
 returns-3 : tie.Need-returns-3
 returns-3 c =
     let a = c .before .before .before .before .before .before .before .before .before .args in
     let t = a .table .now in
-    let w = c .before .before .before .before .before .before .before .before .before .pre .0 in
-    let p : inStandardForm (c .before .before .owner .result .now) ≡ true = ap inStandardForm (c .before .before .owner .ensures) ∙ sound-owner t (w .sound) (a .i) (omega (arith, w .here, c .before .before .before .before .before .before .before .before .before .pre .1 .0)) in
-    let q : inStandardForm (c .before .owner2 .result .now) ≡ true = ap inStandardForm (c .before .owner2 .ensures) ∙ sound-owner t (w .sound) (a .j) (w .here) in
     let d = dname-is (recordAt t (a .i)) (sym (c .before .before .before .before .kind .ensures) ∙ c .before .before .before .if2 .left) in
-    c .equal .ensures .1 p q ∙ rw (c .before .before .owner .ensures, c .before .owner2 .ensures) (sym (twin-dname t (a .j) (a .i) d))
+    c .equal .ensures ∙ rw (c .before .before .owner .ensures, c .before .owner2 .ensures) (sym (twin-dname t (a .j) (a .i) d))
 
 pub is-twin-spec : {M : Type 1} → statement M
 is-twin-spec =

@@ -1,4 +1,4 @@
--- `plan::mark_at` meets its contract. Assumes nothing.
+-- `plan::mark_at` meets its contract.
 use borrow.Author.Needs.{needs}
 use mathlib.Core.Path.{ap, _∙_, sym}
 use Rattle.plan.specs.Layout.{ownerSlot, recordAt}

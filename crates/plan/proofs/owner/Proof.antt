@@ -1,4 +1,4 @@
--- `plan::owner` meets its contract. Assumes nothing.
+-- `plan::owner` meets its contract.
 use borrow.Author.Needs.{needs}
 use native.Mathlib.Omega.{arith}
 use mathlib.Core.Path.{_≡_, refl}

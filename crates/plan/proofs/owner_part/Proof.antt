@@ -1,4 +1,4 @@
--- `plan::owner_part` meets its contract. Assumes nothing.
+-- `plan::owner_part` meets its contract.
 use borrow.Author.Needs.{needs}
 use native.Mathlib.Omega.{arith}
 use mathlib.Core.Path.{ap, _∙_, sym}

@@ -1,4 +1,4 @@
--- `plan::prefix_good` meets its contract. Assumes nothing.
+-- `plan::prefix_good` meets its contract.
 use mathlib.Core.Path.{ap, _∙_, sym}
 use Prim.Native.Nat.{ℕ}
 use lib.Dec.{leb, eqb}

@@ -1,4 +1,4 @@
--- `plan::repeated` meets its contract. Assumes nothing.
+-- `plan::repeated` meets its contract.
 use borrow.Author.Needs.{needs}
 use mathlib.Core.Path.{_∙_, sym}
 use Rattle.plan.specs.Layout.{recordAt}

@@ -1,4 +1,4 @@
--- `plan::slot_good` meets its contract: the fill first, then the name. Assumes nothing.
+-- `plan::slot_good` meets its contract: the fill first, then the name.
 use mathlib.Core.Path.{_≡_, ap, _∙_, sym}
 use Prim.Native.Nat.{ℕ, _+_}
 use borrow.Author.Tests.{not-true, not-false}

@@ -1,4 +1,4 @@
--- `plan::target_good` meets its contract. Assumes nothing.
+-- `plan::target_good` meets its contract.
 use mathlib.Core.Path.{_≡_, ap, _∙_, sym}
 use mathlib.Core.Bool.{true, false}
 use Rattle.plan.specs.Check.{slotGood, slotEmpty, targetless}

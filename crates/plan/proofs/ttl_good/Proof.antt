@@ -1,4 +1,4 @@
--- `plan::ttl_good` meets its contract. Assumes nothing.
+-- `plan::ttl_good` meets its contract.
 use mathlib.Core.Path.{ap}
 use Prim.Native.Nat.{ℕ}
 use lib.Dec.{leb}

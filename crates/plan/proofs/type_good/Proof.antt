@@ -1,4 +1,4 @@
--- `plan::type_good` meets its contract. Assumes nothing.
+-- `plan::type_good` meets its contract.
 use mathlib.Core.Path.{ap, _∙_, sym}
 use Prim.Native.Nat.{ℕ}
 use lib.Dec.{eqb}

@@ -1,16 +1,19 @@
--- `reverse::walk` meets its contract: each end by one law, and each step by the contract itself with one rewrite less. Assumes nothing.
-use Prim.Native.Nat.{_-_, ℕ, _<_}
-use mathlib.Core.Path.{_≡_, refl, ap, _∙_, sym}
-use mathlib.Core.List.{List, [], _++_}
-use lib.ListN.{length, take}
-use lib.Seq.{take-all}
-use native.Mathlib.Nat.{zero-add}
+-- `reverse::walk` meets its contract: each end by one law, and each step by the contract itself with one rewrite less.
+use Prim.Native.Nat.{ℕ, _+_, _≤_, _<_}
+use mathlib.Core.Path.{_≡_, refl, ap, _∙_}
+use mathlib.Core.Bool.{true}
+use mathlib.Core.List.{List}
+use lib.ListN.{length}
 use native.Mathlib.Omega.{arith}
 use borrow.Author.Needs.{needs}
 use Rattle.octets.specs.Octets.{blank, Small}
 use Rattle.octets.proofs.OctetLaws.{length-blank}
-use Rattle.rewriting.proofs.FillLaws.{filled-none, filled-paste, filled-done}
-use Rattle.reverse.proofs.ReplyLaws.{reply-ended, reply-out, reply-large, target-is, target-stands, next-length, next-short, next-standing, next-walk}
+use Rattle.plan.specs.Layout.{targetAt, isDname, countOf, recordAt}
+use Rattle.plan.specs.Check.{InOrder}
+use Rattle.rewriting.specs.Spots.{Standing}
+use Rattle.rewriting.specs.Splice.{splicedLength, splicedOut}
+use Rattle.reverse.specs.declared.Best.{Best}
+use Rattle.reverse.proofs.ReplyLaws.{name-copied, nextOf, Onward, Walking, onward, reply-ended, reply-out, reply-large, target-is, target-stands}
 use Rattle.reverse.specs.Walk.{End}
 use Rattle.reverse.specs.Answers.{answerFor, outFor}
 use borrow.Fn.Kinds.{In}
@@ -35,414 +38,9 @@ walk-at t = and 3 walk-kinds.ps (is 3 walk-kinds.ps μ-walk t) walk.Pre
 abbrev walk-below : ℕ → In 3 walk-kinds.ps
 walk-below t = and 3 walk-kinds.ps (falls 3 walk-kinds.ps _<_ μ-walk t) walk.Pre
 
-walk-choose-requires : (t : ℕ) → walk-lts.Need-choose-requires (
-  choose-reads.Asked,
-  choose-reads.Learnt,
-  copy-reads.Asked,
-  copy-reads.Learnt,
-  refused-reads.Asked,
-  refused-reads.Learnt,
-  target-reads.Asked,
-  target-reads.Learnt,
-  splice-reads.Asked,
-  splice-reads.Learnt,
-  walk-below t,
-  walk.Post,
-) (walk-at t) walk.Post
-walk-choose-requires t c κs = (c .before .before .before .pre .1 .0 .0, c .before .before .before .pre .1 .0 .1)
-
-walk-copy-requires : (t : ℕ) → walk-lts.Need-copy-requires (
-  choose-reads.Asked,
-  choose-reads.Learnt,
-  copy-reads.Asked,
-  copy-reads.Learnt,
-  refused-reads.Asked,
-  refused-reads.Learnt,
-  target-reads.Asked,
-  target-reads.Learnt,
-  splice-reads.Asked,
-  splice-reads.Learnt,
-  walk-below t,
-  walk.Post,
-) (walk-at t) walk.Post
-walk-copy-requires t c κs =
-    let a = c .before .before .before .before .before .before .args in
-    let p = c .before .before .before .before .before .before .pre .1 in
-    let tb = a .table .now in
-    let nm = a .name .now in
-    let b = c .before .before .choose .result in
-    let h = c .before .before .choose .ensures in
-    let l : length (a .out .now) ≡ 255 = ap length (p .1 .1) ∙ length-blank 255 in
-    let w = p .0 .1 .begins .short in
-    (omega arith, omega arith)
-
-walk-cast-t16 : (t : ℕ) → walk-lts.Need-cast-t16 (
-  choose-reads.Asked,
-  choose-reads.Learnt,
-  copy-reads.Asked,
-  copy-reads.Learnt,
-  refused-reads.Asked,
-  refused-reads.Learnt,
-  target-reads.Asked,
-  target-reads.Learnt,
-  splice-reads.Asked,
-  splice-reads.Learnt,
-  walk-below t,
-  walk.Post,
-) (walk-at t) walk.Post
-walk-cast-t16 t c =
-    let a = c .before .before .before .before .before .before .before .before .before .args in
-    let p = c .before .before .before .before .before .before .before .before .before .pre .1 in
-    let tb = a .table .now in
-    let nm = a .name .now in
-    let b = c .before .before .before .before .before .choose .result in
-    let h = c .before .before .before .before .before .choose .ensures in
-    let w = p .0 .1 .begins .short in
-    omega arith
-
-walk-same-length : (t : ℕ) → walk-lts.Need-same-length (
-  choose-reads.Asked,
-  choose-reads.Learnt,
-  copy-reads.Asked,
-  copy-reads.Learnt,
-  refused-reads.Asked,
-  refused-reads.Learnt,
-  target-reads.Asked,
-  target-reads.Learnt,
-  splice-reads.Asked,
-  splice-reads.Learnt,
-  walk-below t,
-  walk.Post,
-) (walk-at t) walk.Post
-walk-same-length t c = search needs
-
-walk-returns : (t : ℕ) → walk-lts.Need-returns (
-  choose-reads.Asked,
-  choose-reads.Learnt,
-  copy-reads.Asked,
-  copy-reads.Learnt,
-  refused-reads.Asked,
-  refused-reads.Learnt,
-  target-reads.Asked,
-  target-reads.Learnt,
-  splice-reads.Asked,
-  splice-reads.Learnt,
-  walk-below t,
-  walk.Post,
-) (walk-at t) walk.Post
-walk-returns t c =
-    let a = c .before .before .before .before .before .before .before .before .before .args in
-    let p = c .before .before .before .before .before .before .before .before .before .pre .1 in
-    let tb = a .table .now in
-    let nm = a .name .now in
-    let b = c .before .before .before .before .before .choose .result in
-    let h = c .before .before .before .before .before .choose .ensures in
-    let m : Small nm = λ i. omega (arith, c .before .before .before .before .before .before .before .shared-slice-known2 .given i) in
-    let w = p .0 .1 .begins .short in
-    let e : take (length nm) nm ≡ nm = take-all (length nm) nm (omega arith) in
-    let f = filled-done _ _ _ (filled-paste (a .out .now) _ nm [] 0 (length nm) (length nm) (filled-none (a .out .now) (p .1 .1)) (omega arith) (omega arith) (sym (zero-add (length nm))) (c .before .before .copy .ensures)) in
-    let r = reply-ended tb nm b (a .limit) (a .done) (p .0 .0) (p .0 .1) h m (c .before .before .before .before .if1 .taken) in
-    (r .0, f .1 ∙ ap (λ (ys : List ℕ). ys ++ blank (255 - length ys)) e ∙ r .1)
-
-walk-refused-requires : (t : ℕ) → walk-lts.Need-refused-requires (
-  choose-reads.Asked,
-  choose-reads.Learnt,
-  copy-reads.Asked,
-  copy-reads.Learnt,
-  refused-reads.Asked,
-  refused-reads.Learnt,
-  target-reads.Asked,
-  target-reads.Learnt,
-  splice-reads.Asked,
-  splice-reads.Learnt,
-  walk-below t,
-  walk.Post,
-) (walk-at t) walk.Post
-walk-refused-requires t c κs = search needs
-
-walk-returns-2 : (t : ℕ) → walk-lts.Need-returns-2 (
-  choose-reads.Asked,
-  choose-reads.Learnt,
-  copy-reads.Asked,
-  copy-reads.Learnt,
-  refused-reads.Asked,
-  refused-reads.Learnt,
-  target-reads.Asked,
-  target-reads.Learnt,
-  splice-reads.Asked,
-  splice-reads.Learnt,
-  walk-below t,
-  walk.Post,
-) (walk-at t) walk.Post
-walk-returns-2 t c =
-    let a = c .before .before .before .before .before .before .before .args in
-    let p = c .before .before .before .before .before .before .before .pre .1 in
-    let tb = a .table .now in
-    let nm = a .name .now in
-    let b = c .before .before .before .choose .result in
-    let h = c .before .before .before .choose .ensures in
-    let r = reply-out tb nm b (a .limit) (a .done) (p .0 .0) (p .0 .1) h (c .before .before .if1 .left) (c .before .if2 .taken) in
-    (c .refused .ensures ∙ r .0, p .1 .1 ∙ r .1)
-
-walk-target-requires : (t : ℕ) → walk-lts.Need-target-requires (
-  choose-reads.Asked,
-  choose-reads.Learnt,
-  copy-reads.Asked,
-  copy-reads.Learnt,
-  refused-reads.Asked,
-  refused-reads.Learnt,
-  target-reads.Asked,
-  target-reads.Learnt,
-  splice-reads.Asked,
-  splice-reads.Learnt,
-  walk-below t,
-  walk.Post,
-) (walk-at t) walk.Post
-walk-target-requires t c κs =
-    let a = c .before .before .before .before .before .before .args in
-    let p = c .before .before .before .before .before .before .pre .1 in
-    let tb = a .table .now in
-    let nm = a .name .now in
-    let b = c .before .before .choose .result in
-    let h = c .before .before .choose .ensures in
-    target-is tb nm b (a .limit) (a .done) (p .0 .0) (p .0 .1) h (c .before .if1 .left) .0
-
-walk-slice-aggregate-splice : (t : ℕ) → walk-lts.Need-slice-aggregate-splice (
-  choose-reads.Asked,
-  choose-reads.Learnt,
-  copy-reads.Asked,
-  copy-reads.Learnt,
-  refused-reads.Asked,
-  refused-reads.Learnt,
-  target-reads.Asked,
-  target-reads.Learnt,
-  splice-reads.Asked,
-  splice-reads.Learnt,
-  walk-below t,
-  walk.Post,
-) (walk-at t) walk.Post
-walk-slice-aggregate-splice t c = refl
-
-walk-splice-requires : (t : ℕ) → walk-lts.Need-splice-requires (
-  choose-reads.Asked,
-  choose-reads.Learnt,
-  copy-reads.Asked,
-  copy-reads.Learnt,
-  refused-reads.Asked,
-  refused-reads.Learnt,
-  target-reads.Asked,
-  target-reads.Learnt,
-  splice-reads.Asked,
-  splice-reads.Learnt,
-  walk-below t,
-  walk.Post,
-) (walk-at t) walk.Post
-unfolding blank
-walk-splice-requires t c κs =
-    let a = c .before .before .before .before .before .before .before .before .args in
-    let p = c .before .before .before .before .before .before .before .before .pre .1 in
-    let tb = a .table .now in
-    let nm = a .name .now in
-    let b = c .before .before .before .before .choose .result in
-    let h = c .before .before .before .before .choose .ensures in
-    let m : Small tb = λ i. omega (arith, c .before .before .before .before .before .before .before .shared-slice-known .given i) in
-    ((p .0 .1, rw (c .before .target .ensures) (target-stands tb nm b (a .limit) (a .done) (p .0 .0) (p .0 .1) h (c .before .before .before .if1 .left) m)), (omega (arith, c .before .before .before .if1 .left), h .within, refl))
-
-walk-refused-requires-2 : (t : ℕ) → walk-lts.Need-refused-requires-2 (
-  choose-reads.Asked,
-  choose-reads.Learnt,
-  copy-reads.Asked,
-  copy-reads.Learnt,
-  refused-reads.Asked,
-  refused-reads.Learnt,
-  target-reads.Asked,
-  target-reads.Learnt,
-  splice-reads.Asked,
-  splice-reads.Learnt,
-  walk-below t,
-  walk.Post,
-) (walk-at t) walk.Post
-walk-refused-requires-2 t c κs = search needs
-
-walk-returns-3 : (t : ℕ) → walk-lts.Need-returns-3 (
-  choose-reads.Asked,
-  choose-reads.Learnt,
-  copy-reads.Asked,
-  copy-reads.Learnt,
-  refused-reads.Asked,
-  refused-reads.Learnt,
-  target-reads.Asked,
-  target-reads.Learnt,
-  splice-reads.Asked,
-  splice-reads.Learnt,
-  walk-below t,
-  walk.Post,
-) (walk-at t) walk.Post
-walk-returns-3 t c =
-    let a = c .before .before .before .before .before .before .before .before .before .before .before .before .args in
-    let p = c .before .before .before .before .before .before .before .before .before .before .before .before .pre .1 in
-    let tb = a .table .now in
-    let nm = a .name .now in
-    let b = c .before .before .before .before .before .before .before .before .choose .result in
-    let h = c .before .before .before .before .before .before .before .before .choose .ensures in
-    let x = rw (c .before .before .before .before .before .target .ensures) at (c .before .before .before .splice .ensures) in
-    let r = reply-large tb nm b (a .limit) (a .done) (p .0 .0) (p .0 .1) h (c .before .before .before .before .before .before .before .if1 .left) (c .before .before .before .before .before .before .if2 .left) (c .before .before .before .splice .result) (x .0) (c .before .if3 .taken) in
-    (c .refused2 .ensures ∙ r .0, p .1 .1 ∙ r .1)
-
-walk-array-share-prefix-next : (t : ℕ) → walk-lts.Need-array-share-prefix-next (
-  choose-reads.Asked,
-  choose-reads.Learnt,
-  copy-reads.Asked,
-  copy-reads.Learnt,
-  refused-reads.Asked,
-  refused-reads.Learnt,
-  target-reads.Asked,
-  target-reads.Learnt,
-  splice-reads.Asked,
-  splice-reads.Learnt,
-  walk-below t,
-  walk.Post,
-) (walk-at t) walk.Post
-walk-array-share-prefix-next t c =
-    let a = c .before .before .before .before .before .before .before .before .before .before .before .args in
-    let p = c .before .before .before .before .before .before .before .before .before .before .before .pre .1 in
-    let tb = a .table .now in
-    let nm = a .name .now in
-    let b = c .before .before .before .before .before .before .before .choose .result in
-    let h = c .before .before .before .before .before .before .before .choose .ensures in
-    let x = rw (c .before .before .before .before .target .ensures) at (c .before .before .splice .ensures) in
-    let m : Small tb = λ i. omega (arith, c .before .before .before .before .before .before .before .before .before .before .shared-slice-known .given i) in
-    let k : length (c .before .before .splice .last .1 .1 .1 .0) ≡ 255 = c .before .before .splice .kept .1 .1 .1 .0 in
-    omega (arith, next-short tb nm b (a .limit) (a .done) (p .0 .0) (p .0 .1) h (c .before .before .before .before .before .before .if1 .left) (c .before .before .before .before .before .if2 .left) m (c .before .before .splice .result) (c .before .before .splice .last .1 .1 .1 .0) (x .0) (x .1) (c .if3 .left))
-
-walk-slice-aggregate-walk : (t : ℕ) → walk-lts.Need-slice-aggregate-walk (
-  choose-reads.Asked,
-  choose-reads.Learnt,
-  copy-reads.Asked,
-  copy-reads.Learnt,
-  refused-reads.Asked,
-  refused-reads.Learnt,
-  target-reads.Asked,
-  target-reads.Learnt,
-  splice-reads.Asked,
-  splice-reads.Learnt,
-  walk-below t,
-  walk.Post,
-) (walk-at t) walk.Post
-walk-slice-aggregate-walk t c =
-    let a = c .before .before .before .before .before .before .before .before .before .before .before .before .args in
-    let p = c .before .before .before .before .before .before .before .before .before .before .before .before .pre .1 in
-    let tb = a .table .now in
-    let nm = a .name .now in
-    let b = c .before .before .before .before .before .before .before .before .choose .result in
-    let h = c .before .before .before .before .before .before .before .before .choose .ensures in
-    let x = rw (c .before .before .before .before .before .target .ensures) at (c .before .before .before .splice .ensures) in
-    let m : Small tb = λ i. omega (arith, c .before .before .before .before .before .before .before .before .before .before .before .shared-slice-known .given i) in
-    next-length tb nm b (a .limit) (a .done) (p .0 .0) (p .0 .1) h (c .before .before .before .before .before .before .before .if1 .left) (c .before .before .before .before .before .before .if2 .left) m (c .before .before .before .splice .result) (c .before .before .before .splice .last .1 .1 .1 .0) (x .0) (x .1) (c .before .if3 .left)
-
-walk-sub-walk : (t : ℕ) → walk-lts.Need-sub-walk (
-  choose-reads.Asked,
-  choose-reads.Learnt,
-  copy-reads.Asked,
-  copy-reads.Learnt,
-  refused-reads.Asked,
-  refused-reads.Learnt,
-  target-reads.Asked,
-  target-reads.Learnt,
-  splice-reads.Asked,
-  splice-reads.Learnt,
-  walk-below t,
-  walk.Post,
-) (walk-at t) walk.Post
-walk-sub-walk t c = omega (arith, c .before .before .before .before .before .before .if2 .left)
-
-walk-add-walk : (t : ℕ) → walk-lts.Need-add-walk (
-  choose-reads.Asked,
-  choose-reads.Learnt,
-  copy-reads.Asked,
-  copy-reads.Learnt,
-  refused-reads.Asked,
-  refused-reads.Learnt,
-  target-reads.Asked,
-  target-reads.Learnt,
-  splice-reads.Asked,
-  splice-reads.Learnt,
-  walk-below t,
-  walk.Post,
-) (walk-at t) walk.Post
-walk-add-walk t c = omega (arith, c .before .before .before .before .before .before .before .before .before .before .before .before .pre .1 .1 .0, c .before .before .before .before .before .before .if2 .left)
-
-walk-walk-requires : (t : ℕ) → walk-lts.Need-walk-requires (
-  choose-reads.Asked,
-  choose-reads.Learnt,
-  copy-reads.Asked,
-  copy-reads.Learnt,
-  refused-reads.Asked,
-  refused-reads.Learnt,
-  target-reads.Asked,
-  target-reads.Learnt,
-  splice-reads.Asked,
-  splice-reads.Learnt,
-  walk-below t,
-  walk.Post,
-) (walk-at t) walk.Post
-walk-walk-requires t c κs =
-    let a = c .before .before .before .before .before .before .before .before .before .before .before .before .before .args in
-    let p = c .before .before .before .before .before .before .before .before .before .before .before .before .before .pre .1 in
-    let tb = a .table .now in
-    let nm = a .name .now in
-    let b = c .before .before .before .before .before .before .before .before .before .choose .result in
-    let h = c .before .before .before .before .before .before .before .before .before .choose .ensures in
-    let x = rw (c .before .before .before .before .before .before .target .ensures) at (c .before .before .before .before .splice .ensures) in
-    let m : Small tb = λ i. omega (arith, c .before .before .before .before .before .before .before .before .before .before .before .before .shared-slice-known .given i) in
-    let g = c .before .before .before .before .before .before .before .if2 .left in
-    (omega (arith, c .before .before .before .before .before .before .before .before .before .before .before .before .before .pre .0, g), ((p .0 .0, next-standing tb nm b (a .limit) (a .done) (p .0 .0) (p .0 .1) h (c .before .before .before .before .before .before .before .before .if1 .left) (c .before .before .before .before .before .before .before .if2 .left) m (c .before .before .before .before .splice .result) (c .before .before .before .before .splice .last .1 .1 .1 .0) (x .0) (x .1) (c .before .before .if3 .left)), (omega (arith, p .1 .0, g), p .1 .1)))
-
-walk-same-length-2 : (t : ℕ) → walk-lts.Need-same-length-2 (
-  choose-reads.Asked,
-  choose-reads.Learnt,
-  copy-reads.Asked,
-  copy-reads.Learnt,
-  refused-reads.Asked,
-  refused-reads.Learnt,
-  target-reads.Asked,
-  target-reads.Learnt,
-  splice-reads.Asked,
-  splice-reads.Learnt,
-  walk-below t,
-  walk.Post,
-) (walk-at t) walk.Post
-walk-same-length-2 t c = search needs
-
-walk-returns-4 : (t : ℕ) → walk-lts.Need-returns-4 (
-  choose-reads.Asked,
-  choose-reads.Learnt,
-  copy-reads.Asked,
-  copy-reads.Learnt,
-  refused-reads.Asked,
-  refused-reads.Learnt,
-  target-reads.Asked,
-  target-reads.Learnt,
-  splice-reads.Asked,
-  splice-reads.Learnt,
-  walk-below t,
-  walk.Post,
-) (walk-at t) walk.Post
-walk-returns-4 t c =
-    let a = c .before .before .before .before .before .before .before .before .before .before .before .before .before .before .before .before .args in
-    let p = c .before .before .before .before .before .before .before .before .before .before .before .before .before .before .before .before .pre .1 in
-    let tb = a .table .now in
-    let nm = a .name .now in
-    let b = c .before .before .before .before .before .before .before .before .before .before .before .before .choose .result in
-    let h = c .before .before .before .before .before .before .before .before .before .before .before .before .choose .ensures in
-    let x = rw (c .before .before .before .before .before .before .before .before .before .target .ensures) at (c .before .before .before .before .before .before .before .splice .ensures) in
-    let m : Small tb = λ i. omega (arith, c .before .before .before .before .before .before .before .before .before .before .before .before .before .before .before .shared-slice-known .given i) in
-    let w = c .before .before .walk .ensures in
-    let e = next-walk tb nm b (a .limit) (a .done) (p .0 .0) (p .0 .1) h (c .before .before .before .before .before .before .before .before .before .before .before .if1 .left) (c .before .before .before .before .before .before .before .before .before .before .if2 .left) m (c .before .before .before .before .before .before .before .splice .result) (c .before .before .before .before .before .before .before .splice .last .1 .1 .1 .0) (x .0) (x .1) (c .before .before .before .before .before .if3 .left) in
-    (w .0 ∙ ap answerFor e, w .1 ∙ ap (λ (y : End). outFor y 255) e)
-
-pub +walk-spec : {M : Type 1} → statement M
-+walk-spec = close μ-walk λ t. walk-lts.spec (
+-- what is known of the functions that it calls
+abbrev walk-claims : ℕ → walk-lts.Claims
+walk-claims t = (
   choose-reads.Asked,
   choose-reads.Learnt,
   copy-reads.Asked,
@@ -456,6 +54,185 @@ pub +walk-spec : {M : Type 1} → statement M
   walk-below t,
   walk.Post,
 )
+
+-- ---- what is known at its places: `Begun` where it begins, `Found` where the best DNAME is known, `Due` where one applies, `Copied` where the name is
+-- in the output, `Spliced` where the name is rewritten, `On` where the rewrite is not too large
+module _ (t : ℕ) where
+  abbrev Begun : Type 0
+  Begun = walk-lts.Start (walk-claims t) (walk-at t) walk.Post
+
+  abbrev Found : Type 0
+  Found = walk-lts.After-choose (walk-claims t) (walk-at t) walk.Post
+
+  abbrev Due : Type 0
+  Due = walk-lts.Else1 (walk-claims t) (walk-at t) walk.Post
+
+  abbrev Copied : Type 0
+  Copied = walk-lts.After-slice-known2 (walk-claims t) (walk-at t) walk.Post
+
+  abbrev Spliced : Type 0
+  Spliced = walk-lts.After-splice (walk-claims t) (walk-at t) walk.Post
+
+  abbrev On : Type 0
+  On = walk-lts.Else3 (walk-claims t) (walk-at t) walk.Post
+
+  -- the ways back
+  abbrev begun : Found → Begun
+  begun c = c .before .before .before .before
+
+  abbrev copied : Copied → Found
+  copied c = c .before .before .before .before .before
+
+  abbrev due : Spliced → Due
+  due c = c .before .before .before .before
+
+  abbrev begun-on : On → Begun
+  begun-on c = begun (due (c .before .before) .before)
+
+  -- where it begins
+  abbrev table : Begun → List ℕ
+  table c = c .args .table .now
+
+  abbrev name : Begun → List ℕ
+  name c = c .args .name .now
+
+  given : (c : Begun) → (InOrder (table c) × Standing (name c)) × ((c .args .limit + c .args .done < 256) × (c .args .out .now ≡ blank 255))
+  given c = c .pre .1
+
+  wide : (c : Begun) → length (name c) ≤ 255
+  wide c = given c .0 .1 .begins .short
+
+  room : (c : Begun) → length (c .args .out .now) ≡ 255
+  room c = ap length (given c .1 .1) ∙ length-blank 255
+
+  -- where the best DNAME is known
+  abbrev best : Found → Best
+  best c = c .choose .result
+
+  small : (c : Found) → Small (table (begun c))
+  small c i = omega (arith, c .before .before .before .shared-slice-known .given i)
+
+  small-name : (c : Found) → Small (name (begun c))
+  small-name c i = omega (arith, c .before .before .shared-slice-known2 .given i)
+
+  walking : (c : Found) → Walking (table (begun c)) (name (begun c)) (best c)
+  walking c = record { order = given (begun c) .0 .0; standing = given (begun c) .0 .1; chosen = c .choose .ensures }
+
+  -- where one applies
+  applies : (c : Due)
+      → (best (c .before) .index < countOf (table (begun (c .before)))) × (isDname (recordAt (table (begun (c .before))) (best (c .before) .index)) ≡ true)
+  applies c = target-is (walking (c .before)) (begun (c .before) .args .limit) (begun (c .before) .args .done) (c .if1 .left)
+
+  stands : (c : Due) → Standing (targetAt (table (begun (c .before))) (best (c .before) .index))
+  stands c = target-stands (walking (c .before)) (begun (c .before) .args .limit) (begun (c .before) .args .done) (c .if1 .left) (small (c .before))
+
+  -- where the name is rewritten: there was a rewrite left, and what is written
+  abbrev rewritten : Spliced → List ℕ
+  rewritten c = c .splice .last .1 .1 .1 .0
+
+  more : (c : Spliced) → begun (due c .before) .args .limit ≡ 0 → ⊥
+  more c = c .before .before .before .if2 .left
+
+  spliced : (c : Spliced) → (c .splice .result ≡ splicedLength (nextOf (table (begun (due c .before))) (name (begun (due c .before))) (best (due c .before))))
+      × (rewritten c ≡ splicedOut (nextOf (table (begun (due c .before))) (name (begun (due c .before))) (best (due c .before))))
+  spliced c = rw (c .before .before .target .ensures) at (c .splice .ensures)
+
+  -- where the rewrite is not too large: the walk goes on from it
+  goes-on : (c : On)
+      → Onward (table (begun-on c)) (name (begun-on c)) (begun-on c .args .limit) (begun-on c .args .done) (c .before .before .splice .result) (rewritten (c .before .before))
+  goes-on c =
+      let w = c .before .before in
+      let d = due w in
+      let a = begun-on c .args in
+      onward (walking (d .before)) (a .limit) (a .done) (d .if1 .left) (more w) (small (d .before)) (w .splice .result) (rewritten w) (spliced w .0) (spliced w .1) (c .if3 .left)
+
+  -- ---- and what it owes
+  walk-choose-requires : walk-lts.Need-choose-requires (walk-claims t) (walk-at t) walk.Post
+  walk-choose-requires c κs = given (c .before .before .before) .0
+
+  walk-copy-requires : walk-lts.Need-copy-requires (walk-claims t) (walk-at t) walk.Post
+  walk-copy-requires c κs =
+      let s = begun (c .before .before) in
+      (omega (arith, wide s, room s), omega (arith, wide s, room s))
+
+  walk-cast-t16 : walk-lts.Need-cast-t16 (walk-claims t) (walk-at t) walk.Post
+  walk-cast-t16 c = omega (arith, wide (begun (copied c)))
+
+  walk-same-length : walk-lts.Need-same-length (walk-claims t) (walk-at t) walk.Post
+  walk-same-length c = search needs
+
+  walk-returns : walk-lts.Need-returns (walk-claims t) (walk-at t) walk.Post
+  walk-returns c =
+      let f = copied c in
+      let s = begun f in
+      let r = reply-ended (walking f) (s .args .limit) (s .args .done) (small-name f) (c .before .before .before .before .if1 .taken) in
+      (r .0, name-copied (s .args .out .now) _ (name s) (given s .1 .1) (wide s) (c .before .before .copy .ensures) ∙ r .1)
+
+  walk-refused-requires : walk-lts.Need-refused-requires (walk-claims t) (walk-at t) walk.Post
+  walk-refused-requires c κs = search needs
+
+  walk-returns-2 : walk-lts.Need-returns-2 (walk-claims t) (walk-at t) walk.Post
+  walk-returns-2 c =
+      let d = c .before .before in
+      let s = begun (d .before) in
+      let r = reply-out (walking (d .before)) (s .args .limit) (s .args .done) (d .if1 .left) (c .before .if2 .taken) in
+      (c .refused .ensures ∙ r .0, given s .1 .1 ∙ r .1)
+
+  walk-target-requires : walk-lts.Need-target-requires (walk-claims t) (walk-at t) walk.Post
+  walk-target-requires c κs = applies (c .before) .0
+
+  walk-slice-aggregate-splice : walk-lts.Need-slice-aggregate-splice (walk-claims t) (walk-at t) walk.Post
+  walk-slice-aggregate-splice c = refl
+
+  walk-splice-requires : walk-lts.Need-splice-requires (walk-claims t) (walk-at t) walk.Post
+  unfolding blank
+  walk-splice-requires c κs =
+      let d = c .before .before .before in
+      let f = d .before in
+      ((given (begun f) .0 .1, rw (c .before .target .ensures) (stands d)), (omega (arith, d .if1 .left), f .choose .ensures .within, refl))
+
+  walk-refused-requires-2 : walk-lts.Need-refused-requires-2 (walk-claims t) (walk-at t) walk.Post
+  walk-refused-requires-2 c κs = search needs
+
+  walk-returns-3 : walk-lts.Need-returns-3 (walk-claims t) (walk-at t) walk.Post
+  walk-returns-3 c =
+      let w = c .before .before .before in
+      let d = due w in
+      let s = begun (d .before) in
+      let r = reply-large (walking (d .before)) (s .args .limit) (s .args .done) (d .if1 .left) (more w) (w .splice .result) (spliced w .0) (c .before .if3 .taken) in
+      (c .refused2 .ensures ∙ r .0, given s .1 .1 ∙ r .1)
+
+  walk-array-share-prefix-next : walk-lts.Need-array-share-prefix-next (walk-claims t) (walk-at t) walk.Post
+  walk-array-share-prefix-next c =
+      let k : length (rewritten (c .before .before)) ≡ 255 = c .before .before .splice .kept .1 .1 .1 .0 in
+      omega (arith, goes-on c .short)
+
+  walk-slice-aggregate-walk : walk-lts.Need-slice-aggregate-walk (walk-claims t) (walk-at t) walk.Post
+  walk-slice-aggregate-walk c = goes-on (c .before) .size
+
+  walk-sub-walk : walk-lts.Need-sub-walk (walk-claims t) (walk-at t) walk.Post
+  walk-sub-walk c = omega (arith, more (c .before .before .before))
+
+  walk-add-walk : walk-lts.Need-add-walk (walk-claims t) (walk-at t) walk.Post
+  walk-add-walk c = omega (arith, given (begun-on (c .before)) .1 .0, more (c .before .before .before))
+
+  walk-walk-requires : walk-lts.Need-walk-requires (walk-claims t) (walk-at t) walk.Post
+  walk-walk-requires c κs =
+      let s = begun-on (c .before .before) in
+      let g = more (c .before .before .before .before) in
+      (omega (arith, s .pre .0, g), ((given s .0 .0, goes-on (c .before .before) .standing), (omega (arith, given s .1 .0, g), given s .1 .1)))
+
+  walk-same-length-2 : walk-lts.Need-same-length-2 (walk-claims t) (walk-at t) walk.Post
+  walk-same-length-2 c = search needs
+
+  walk-returns-4 : walk-lts.Need-returns-4 (walk-claims t) (walk-at t) walk.Post
+  walk-returns-4 c =
+      let w = c .before .before .walk .ensures in
+      let e = goes-on (c .before .before .before .before .before) .walk in
+      (w .0 ∙ ap answerFor e, w .1 ∙ ap (λ (y : End). outFor y 255) e)
+
+pub +walk-spec : {M : Type 1} → statement M
++walk-spec = close μ-walk λ t. walk-lts.spec (walk-claims t)
     (walk-at t)
     walk.Post
     (walk-choose-requires t)

@@ -1,4 +1,4 @@
--- `reverse::better` meets its contract. Assumes nothing.
+-- `reverse::better` meets its contract.
 use native.Mathlib.Omega.{arith}
 use Rattle.reverse.proofs.ChoiceLaws.{better-none, better-first, better-yes, better-no}
 use Rattle.reverse.proofs.better.Statement.{statement}

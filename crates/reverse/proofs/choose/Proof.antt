@@ -1,4 +1,4 @@
--- `reverse::choose` meets its contract. The loop's invariant: the best of the records looked at. Assumes nothing.
+-- `reverse::choose` meets its contract. The loop's invariant: the best of the records looked at.
 use borrow.Author.Needs.{needs}
 use Prim.Native.Nat.{_-_, _≤_}
 use mathlib.Core.Path.{_≡_}

@@ -1,11 +1,12 @@
--- `reverse::consider` meets its contract: a record that is no DNAME changes nothing. Assumes nothing.
+-- `reverse::consider` meets its contract: a record that is no DNAME changes nothing.
 use Prim.Native.Nat.{ℕ}
 use mathlib.Core.Path.{_≡_, ap, _∙_}
+use mathlib.Core.Bool.{true}
 use mathlib.Core.List.{List}
 use native.Mathlib.Omega.{arith}
 use Rattle.octets.specs.Octets.{Small}
 use Rattle.names.specs.Standard.{Unit, unitsOf}
-use Rattle.plan.specs.Layout.{ownerAt}
+use Rattle.plan.specs.Layout.{isDname, recordAt, ownerAt}
 use Rattle.rewriting.specs.Rewrite.{belowOf}
 use Rattle.rewriting.specs.Spots.{unitsAt}
 use Rattle.rewriting.proofs.LinkLaws.{form-units}
@@ -15,35 +16,61 @@ use borrow.Author.Needs.{needs}
 use Rattle.reverse.proofs.consider.Statement.{statement}
 use Rattle.reverse.proofs.consider.Tie as tie
 
+-- ---- what is known at its places: `tie.After-kind` where the record's type is read, `tie.After-owner` where it is a DNAME and its owner is found
+abbrev begun : tie.After-kind → tie.Start
+begun c = c .before .before .before
+
+abbrev begun-owner : tie.After-owner → tie.Start
+begun-owner c = begun (c .before .before)
+
+abbrev table : tie.Start → List ℕ
+table c = c .args .table .now
+
+abbrev units : tie.Start → List Unit
+units c = unitsAt (c .args .name .now) 0
+
+small : (c : tie.After-owner) → Small (table (begun-owner c))
+small c i = omega (arith, c .before .before .before .before .shared-slice-known .given i)
+
+is-dname : (c : tie.After-owner) → isDname (recordAt (table (begun-owner c)) (begun-owner c .args .i)) ≡ true
+is-dname c =
+    let s = begun-owner c in
+    let k = c .before .before .kind in
+    dname-is (table s) (s .args .i) (k .result) (k .ensures) (c .before .if1 .left)
+
+-- how many units of the name are below that owner
+below : (c : tie.After-beneath) → c .beneath .result ≡ belowOf (unitsOf (ownerAt (table (begun-owner (c .before))) (begun-owner (c .before) .args .i))) (units (begun-owner (c .before)))
+below c =
+    let s = begun-owner (c .before) in
+    let f = form-units (ownerAt (table s) (s .args .i)) (owner-form (table s) (s .pre .0) (s .args .i) (s .pre .2)) in
+    c .beneath .ensures ∙ ap (λ (xs : List ℕ). belowOf (unitsAt xs 0) (units s)) (c .before .owner .ensures) ∙ ap (λ (vs : List Unit). belowOf vs (units s)) f
+
+-- ---- and what it owes
 kind-requires : tie.Need-kind-requires
 kind-requires c κs = search needs
 
 returns : tie.Need-returns
-returns c = chosen-other (c .before .before .before .before .args .table .now) (c .before .before .before .before .args .name .now) (c .before .before .before .before .args .i) (c .before .before .before .before .args .b) (c .before .before .before .before .pre .3) (dname-not (c .before .before .before .before .args .table .now) (c .before .before .before .before .args .i) (c .before .kind .result) (c .before .kind .ensures) (c .if1 .taken))
+returns c =
+    let s = begun (c .before) in
+    let k = c .before .kind in
+    chosen-other (table s) (s .args .name .now) (s .args .i) (s .args .b) (s .pre .3) (dname-not (table s) (s .args .i) (k .result) (k .ensures) (c .if1 .taken))
 
 owner-requires : tie.Need-owner-requires
 owner-requires c κs = search needs
 
 beneath-requires : tie.Need-beneath-requires
 beneath-requires c κs =
-    let t = c .before .before .before .before .before .args .table .now in
-    let p = c .before .before .before .before .before .pre in
-    let s : Small t = λ i. omega (arith, c .before .before .before .before .shared-slice-known .given i) in
-    (p .1, rw (c .owner .ensures) (owner-standing t (p .0) (c .before .before .before .before .before .args .i) (p .2) s))
+    let s = begun-owner c in
+    (s .pre .1, rw (c .owner .ensures) (owner-standing (table s) (s .pre .0) (s .args .i) (s .pre .2) (small c)))
 
 better-requires : tie.Need-better-requires
 better-requires c κs = search needs
 
 returns-2 : tie.Need-returns-2
 returns-2 c =
-    let a = c .before .before .before .before .before .before .before .args in
-    let t = a .table .now in
-    let us = unitsAt (a .name .now) 0 in
-    let p = c .before .before .before .before .before .before .before .pre in
-    let d = dname-is t (a .i) (c .before .before .before .before .kind .result) (c .before .before .before .before .kind .ensures) (c .before .before .before .if1 .left) in
-    let e : c .before .beneath .result ≡ belowOf (unitsOf (ownerAt t (a .i))) us =
-    c .before .beneath .ensures ∙ ap (λ (xs : List ℕ). belowOf (unitsAt xs 0) us) (c .before .before .owner .ensures) ∙ ap (λ (vs : List Unit). belowOf vs us) (form-units (ownerAt t (a .i)) (owner-form t (p .0) (a .i) (p .2))) in
-    rw (c .better .ensures) (chosen-dname t (a .name .now) (a .i) (a .b) (p .3) (c .before .beneath .result) (p .2) d e)
+    let b = c .before in
+    let s = begun-owner (b .before) in
+    rw (c .better .ensures) (chosen-dname (table s) (s .args .name .now) (s .args .i) (s .args .b) (s .pre .3) (b .beneath .result) (s .pre .2) (is-dname (b .before)) (below b))
 
 pub consider-spec : {M : Type 1} → statement M
 consider-spec =

@@ -1,27 +1,52 @@
--- `reverse::lookup` meets its contract: the early refusals in their order, then the walk. Assumes nothing.
+-- `reverse::lookup` meets its contract: the early number, then the walk from the starting name.
 use Prim.Native.Nat.{ℕ}
 use mathlib.Core.Path.{_≡_, ap, _∙_, sym}
 use mathlib.Core.List.{List}
 use lib.ListN.{length}
 use native.Mathlib.Omega.{arith}
-use Rattle.octets.specs.Octets.{blank, Small}
-use Rattle.octets.specs.declared.Answer.{Answer}
-use Rattle.plan.specs.Check.{checkOf}
-use Rattle.plan.proofs.OrderLaws.{number-answer}
-use Rattle.reverse.specs.Walk.{End, walkOf}
-use Rattle.rewriting.specs.Spots.{unitsAt}
-use Rattle.reverse.specs.Answers.{rulesOf, endOf, answerFor, outFor, reverseAnswer, reverseOut}
-use Rattle.reverse.proofs.StartLaws.{start-standing, start-units}
-use Rattle.reverse.proofs.ReplyLaws.{early-table, early-address, early-room, late}
 use borrow.Author.Needs.{needs}
+use Rattle.octets.specs.Octets.{blank, Small}
+use Rattle.plan.specs.Check.{checkOf}
+use Rattle.rewriting.specs.Spots.{unitsAt}
+use Rattle.reverse.specs.Walk.{walkOf}
+use Rattle.reverse.specs.Answers.{rulesOf, earlyNumber, endOf, answerFor, outFor}
+use Rattle.reverse.proofs.StartLaws.{start-standing, start-units}
+use Rattle.reverse.proofs.ReplyLaws.{early-zero, early, late}
 use Rattle.reverse.proofs.lookup.Statement.{statement}
 use Rattle.reverse.proofs.lookup.Tie as tie
 
+-- ---- where the early number is known: the way back to the start, what was handed in, and what is known
+abbrev begun : tie.After-early → tie.Start
+begun c = c .before .before .before .before .before .before .before .before
+
+abbrev table : tie.After-early → List ℕ
+table c = begun c .args .table .now
+
+abbrev address : tie.After-early → List ℕ
+address c = begun c .args .address .now
+
+abbrev room : tie.After-early → ℕ
+room c = length (begun c .args .out .now)
+
+small : (c : tie.After-early) → Small (address c)
+small c i = omega (arith, c .before .before .before .before .before .before .shared-slice-known2 .given i)
+
+zeros : (c : tie.After-early) → c .before .before .before .clear .last .0 ≡ blank (room c)
+zeros c = c .before .before .before .clear .ensures
+
+number-is : (c : tie.After-early) → c .early .result ≡ earlyNumber (table c) (address c) (room c)
+number-is c = c .early .ensures ∙ ap (earlyNumber (table c) (address c)) (c .before .before .before .clear .kept .0)
+
+-- ---- where it is 0: the table, the address and the output are in order
+sound : (c : tie.Else1) → (checkOf (table (c .before)) ≡ 0) × (length (address (c .before)) ≡ 16) × (room (c .before) ≡ 255)
+sound c = let k = c .before in early-zero (table k) (address k) (room k) (sym (number-is k) ∙ c .if1 .left)
+
+-- ---- what it owes
 clear-requires : tie.Need-clear-requires
 clear-requires c κs = search needs
 
-check-requires : tie.Need-check-requires
-check-requires c κs = search needs
+early-requires : tie.Need-early-requires
+early-requires c κs = search needs
 
 refused-requires : tie.Need-refused-requires
 refused-requires c κs = search needs
@@ -31,100 +56,49 @@ same-length c = search needs
 
 returns : tie.Need-returns
 returns c =
-    let a = c .before .before .before .before .before .before .before .before .before .before .args in
-    let t = a .table .now in
-    let x = a .address .now in
-    let n = length (a .out .now) in
-    let e : c .before .before .check .result .number ≡ checkOf t = ap (λ (w : Answer). w .number) (c .before .before .check .ensures) ∙ number-answer t in
-    let r = early-table t x (a .limit) n (c .before .before .check .result .number) e (c .before .if1 .taken) in
-    (c .refused .ensures ∙ r .0, c .before .before .before .before .before .clear .ensures ∙ r .1)
-
-refused-requires-2 : tie.Need-refused-requires-2
-refused-requires-2 c κs = search needs
-
-same-length-2 : tie.Need-same-length-2
-same-length-2 c = search needs
-
-returns-2 : tie.Need-returns-2
-returns-2 c =
-    let a = c .before .before .before .before .before .before .before .before .before .before .before .args in
-    let t = a .table .now in
-    let x = a .address .now in
-    let n = length (a .out .now) in
-    let e : c .before .before .before .check .result .number ≡ checkOf t = ap (λ (w : Answer). w .number) (c .before .before .before .check .ensures) ∙ number-answer t in
-    let r = early-address t x (a .limit) n (sym e ∙ c .before .before .if1 .left) (c .before .if2 .taken) in
-    (c .refused2 .ensures ∙ r .0, c .before .before .before .before .before .before .clear .ensures ∙ r .1)
-
-refused-requires-3 : tie.Need-refused-requires-3
-refused-requires-3 c κs = search needs
-
-same-length-3 : tie.Need-same-length-3
-same-length-3 c = search needs
-
-returns-3 : tie.Need-returns-3
-returns-3 c =
-    let a = c .before .before .before .before .before .before .before .before .before .before .before .before .args in
-    let t = a .table .now in
-    let x = a .address .now in
-    let n = length (a .out .now) in
-    let e : c .before .before .before .before .check .result .number ≡ checkOf t = ap (λ (w : Answer). w .number) (c .before .before .before .before .check .ensures) ∙ number-answer t in
-    let k = c .before .before .before .before .before .before .before .clear .kept .0 in
-    let r = early-room t x (a .limit) n (sym e ∙ c .before .before .before .if1 .left) (c .before .before .if2 .left) (λ h. c .before .if3 .taken (k ∙ h)) in
-    (c .refused3 .ensures ∙ r .0, c .before .before .before .before .before .before .before .clear .ensures ∙ r .1)
+    let k = c .before .before in
+    let r = early (table k) (address k) (begun k .args .limit) (room k) (k .early .result) (number-is k) (c .before .if1 .taken) in
+    (c .refused .ensures ∙ r .0, zeros k ∙ r .1)
 
 start-requires : tie.Need-start-requires
-start-requires c κs = search needs
+start-requires c κs = sound c .1
 
 slice-aggregate-walk : tie.Need-slice-aggregate-walk
 slice-aggregate-walk c = search needs
 
 walk-requires : tie.Need-walk-requires
 walk-requires c κs =
-    let a = c .before .before .before .before .before .before .before .before .before .before .before .before .before .before .args in
-    let t = a .table .now in
-    let x = a .address .now in
-    let n = length (a .out .now) in
-    let e : c .before .before .before .before .before .before .check .result .number ≡ checkOf t = ap (λ (w : Answer). w .number) (c .before .before .before .before .before .before .check .ensures) ∙ number-answer t in
-    let k : n ≡ 255 = sym (c .before .before .before .before .before .before .before .before .before .clear .kept .0) ∙ c .before .before .before .if3 .left in
-    let m : Small x = λ i. omega (arith, c .before .before .before .before .before .before .before .before .before .before .before .before .shared-slice-known2 .given i) in
-    ((sym e ∙ c .before .before .before .before .before .if1 .left, rw (c .before .before .start .ensures) (start-standing x m (c .before .before .before .before .if2 .left))), (omega arith, c .before .before .before .before .before .before .before .before .before .clear .ensures ∙ ap blank k))
+    let s = c .before .before in
+    let e = s .before in
+    let k = e .before in
+    ((sound e .0, rw (s .start .ensures) (start-standing (address k) (small k) (sound e .1))), (omega (arith, begun k .fits), zeros k ∙ ap blank (sound e .2)))
 
-same-length-4 : tie.Need-same-length-4
-same-length-4 c = search needs
+same-length-2 : tie.Need-same-length-2
+same-length-2 c = search needs
 
-returns-4 : tie.Need-returns-4
-unfolding reverseAnswer reverseOut
-returns-4 c =
-    let a = c .before .before .before .before .before .before .before .before .before .before .before .before .before .before .before .before .before .args in
-    let t = a .table .now in
-    let x = a .address .now in
-    let n = length (a .out .now) in
-    let e : c .before .before .before .before .before .before .before .before .before .check .result .number ≡ checkOf t = ap (λ (w : Answer). w .number) (c .before .before .before .before .before .before .before .before .before .check .ensures) ∙ number-answer t in
-    let k : n ≡ 255 = sym (c .before .before .before .before .before .before .before .before .before .before .before .before .clear .kept .0) ∙ c .before .before .before .before .before .before .if3 .left in
-    let m : Small x = λ i. omega (arith, c .before .before .before .before .before .before .before .before .before .before .before .before .before .before .before .shared-slice-known2 .given i) in
-    let l = c .before .before .before .before .before .before .before .if2 .left in
-    let f : walkOf (a .limit) 0 (rulesOf t) (unitsAt (c .before .before .before .before .before .start .result) 0) ≡ endOf t x (a .limit) n =
-    ap (λ (ys : List ℕ). walkOf (a .limit) 0 (rulesOf t) (unitsAt ys 0)) (c .before .before .before .before .before .start .ensures) ∙ ap (walkOf (a .limit) 0 (rulesOf t)) (start-units x m l) ∙ sym (late t x (a .limit) n (sym e ∙ c .before .before .before .before .before .before .before .before .if1 .left) l k) in
+returns-2 : tie.Need-returns-2
+returns-2 c =
+    let s = c .before .before .before .before .before in
+    let e = s .before in
+    let k = e .before in
+    let limit = begun k .args .limit in
+    let f : walkOf limit 0 (rulesOf (table k)) (unitsAt (s .start .result) 0) ≡ endOf (table k) (address k) limit (room k) =
+    ap (λ (ys : List ℕ). walkOf limit 0 (rulesOf (table k)) (unitsAt ys 0)) (s .start .ensures) ∙ ap (walkOf limit 0 (rulesOf (table k))) (start-units (address k) (small k) (sound e .1))
+    ∙ sym (late (table k) (address k) limit (room k) (sound e .0) (sound e .1) (sound e .2)) in
     let w = c .before .before .walk .ensures in
-    (w .0 ∙ ap answerFor f, w .1 ∙ ap (λ (y : End). outFor y 255) f ∙ ap (outFor (endOf t x (a .limit) n)) (sym k))
+    (w .0 ∙ ap answerFor f, w .1 ∙ λ i. outFor (f i) (sym (sound e .2) i))
 
 pub lookup-spec : {M : Type 1} → statement M
 lookup-spec =
     tie.close
     (tie.spec
     clear-requires
-    check-requires
+    early-requires
     refused-requires
     same-length
     returns
-    refused-requires-2
-    same-length-2
-    returns-2
-    refused-requires-3
-    same-length-3
-    returns-3
     start-requires
     slice-aggregate-walk
     walk-requires
-    same-length-4
-    returns-4)
+    same-length-2
+    returns-2)

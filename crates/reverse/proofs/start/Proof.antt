@@ -1,4 +1,4 @@
--- `reverse::start` meets its contract: the header, the address and the suffix. Assumes nothing.
+-- `reverse::start` meets its contract: the header, the address and the suffix.
 use native.Mathlib.Omega.{arith}
 use Rattle.octets.specs.Octets.{Small}
 use Rattle.reverse.proofs.StartLaws.{start-written}

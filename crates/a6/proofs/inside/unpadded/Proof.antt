@@ -1,4 +1,4 @@
--- `a6::inside::unpadded` meets its contract. Assumes nothing.
+-- `a6::inside::unpadded` meets its contract.
 use borrow.Author.Needs.{needs}
 use Rattle.a6.proofs.ReadLaws.{mask-octet}
 use Rattle.a6.proofs.inside.unpadded.Statement.{statement}

@@ -1,4 +1,4 @@
--- `bits::inside::append` meets its contract: what is left of the label gives what the whole would give. Assumes nothing.
+-- `bits::inside::append` meets its contract: what is left of the label gives what the whole would give.
 use mathlib.Core.Path.{refl, _∙_}
 use lib.ListN.{getD, length-drop}
 use native.Mathlib.Omega.{arith}

@@ -1,4 +1,4 @@
--- `bits::inside::flush` meets its contract. Assumes nothing.
+-- `bits::inside::flush` meets its contract.
 use Prim.Native.Nat.{_-_}
 use native.Mathlib.Omega.{arith}
 use Rattle.bits.proofs.PackLaws.{shifted, flush-small, flushed-none, flushed-some}

@@ -1,4 +1,4 @@
--- `bits::inside::low` meets its contract. Assumes nothing.
+-- `bits::inside::low` meets its contract.
 use native.Mathlib.Nat.{div-mul-le-self}
 use lib.Pow.{split}
 use Prim.Native.Nat.{_^_}

@@ -1,4 +1,4 @@
--- `bits::inside::push` meets its contract. Assumes nothing.
+-- `bits::inside::push` meets its contract.
 use Prim.Native.Nat.{_-_}
 use mathlib.Core.Path.{_∙_}
 use native.Mathlib.Omega.{arith}

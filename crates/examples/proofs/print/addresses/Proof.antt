@@ -1,4 +1,4 @@
--- `examples::print::addresses` reads within the output. Assumes nothing.
+-- `examples::print::addresses` reads within the output.
 use Prim.Native.Nat.{_-_, _≤_}
 use lib.ListN.{length}
 use borrow.Author.Needs.{needs}

@@ -1,4 +1,4 @@
--- `examples::print::digits` ends. Assumes nothing.
+-- `examples::print::digits` ends.
 use Prim.Native.Nat.{_-_, _≤_}
 use borrow.Author.Needs.{needs}
 use Rattle.examples.proofs.print.digits.Statement.{statement}

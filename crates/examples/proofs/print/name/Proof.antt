@@ -1,4 +1,4 @@
--- `examples::print::name` ends. Assumes nothing.
+-- `examples::print::name` ends.
 use Prim.Native.Nat.{_-_}
 use mathlib.Core.Path.{_≡_}
 use lib.ListN.{length}

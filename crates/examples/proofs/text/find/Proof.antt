@@ -1,4 +1,4 @@
--- `examples::text::find` finds a place within the text. Assumes nothing.
+-- `examples::text::find` finds a place within the text.
 use Prim.Native.Nat.{_-_, _≤_}
 use mathlib.Core.Path.{_≡_}
 use lib.ListN.{length}

@@ -1,4 +1,4 @@
--- `examples::text::groups` counts at most eight groups. Assumes nothing.
+-- `examples::text::groups` counts at most eight groups.
 use Prim.Native.Nat.{_-_, _≤_}
 use mathlib.Core.Path.{_≡_}
 use lib.ListN.{length}

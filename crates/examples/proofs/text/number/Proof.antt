@@ -1,4 +1,4 @@
--- `examples::text::number` ends. Assumes nothing.
+-- `examples::text::number` ends.
 use Prim.Native.Nat.{_-_, _≤_}
 use mathlib.Core.Path.{_≡_}
 use lib.ListN.{length}

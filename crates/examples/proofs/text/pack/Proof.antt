@@ -1,4 +1,4 @@
--- `examples::text::pack` writes within the output. Assumes nothing.
+-- `examples::text::pack` writes within the output.
 use Prim.Native.Nat.{_-_, _≤_}
 use mathlib.Core.Path.{_≡_}
 use lib.ListN.{length}

@@ -1,4 +1,4 @@
--- `examples::text::place` ends. Assumes nothing.
+-- `examples::text::place` ends.
 use Prim.Native.Nat.{_-_, _≤_}
 use borrow.Author.Needs.{needs}
 use Rattle.examples.proofs.text.place.Statement.{statement}

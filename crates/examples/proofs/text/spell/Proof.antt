@@ -1,4 +1,4 @@
--- `examples::text::spell` writes within the output. Assumes nothing.
+-- `examples::text::spell` writes within the output.
 use Prim.Native.Nat.{_+_, _-_, _≤_, _<_}
 use mathlib.Core.Path.{_≡_}
 use lib.ListN.{length}

@@ -1,4 +1,4 @@
--- `examples::text::word` shows a part of the line. Assumes nothing.
+-- `examples::text::word` shows a part of the line.
 use Prim.Native.Nat.{_-_, _≤_}
 use lib.ListN.{length}
 use borrow.Author.Needs.{needs}

@@ -1,4 +1,4 @@
--- `forward::gather::owner_of` meets its contract. Assumes nothing.
+-- `forward::gather::owner_of` meets its contract.
 use borrow.Author.Tests.{eq-eqb, ne-eqb}
 use Rattle.plan.specs.Layout.{a6}
 use Rattle.forward.proofs.gather.owner_of.Statement.{statement}

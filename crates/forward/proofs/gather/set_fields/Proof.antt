@@ -1,4 +1,4 @@
--- `forward::gather::set_fields` meets its contract: a turn sets the fields of one more record. Assumes nothing.
+-- `forward::gather::set_fields` meets its contract: a turn sets the fields of one more record.
 use Prim.Native.Nat.{_-_, _*_, _≤_}
 use mathlib.Core.Path.{_≡_, _∙_}
 use lib.ListN.{length, getD, length-set}

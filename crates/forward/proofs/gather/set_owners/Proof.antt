@@ -1,11 +1,12 @@
--- `forward::gather::set_owners` meets its contract: a turn fills one more place. Assumes nothing.
+-- `forward::gather::set_owners` meets its contract: a turn fills one more place.
 use Prim.Native.Nat.{ℕ, _-_, _≤_}
 use mathlib.Core.Path.{_≡_, refl, ap, _∙_, sym}
 use mathlib.Core.List.{List}
 use lib.ListN.{length, getD, set, length-set}
 use native.Mathlib.Omega.{arith}
 use borrow.Author.Needs.{needs}
-use Rattle.plan.specs.Layout.{a6, countOf, typeAt}
+use Rattle.plan.specs.Layout.{a6, countOf}
+use Rattle.plan.specs.Records.{typeAt}
 use Rattle.numbering.specs.Numbers.{filled}
 use Rattle.numbering.proofs.NamesLaws.{filled-none}
 use Rattle.chains.specs.Lists.{pick}

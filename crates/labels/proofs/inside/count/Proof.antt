@@ -1,4 +1,4 @@
--- `labels::inside::count` meets its contract. Assumes nothing.
+-- `labels::inside::count` meets its contract.
 use native.Mathlib.Omega.{arith}
 use borrow.Author.Tests.{ne-eqb}
 use Rattle.labels.specs.Labels.{countFor}

@@ -1,4 +1,4 @@
--- `names::inside::put_standard` meets its contract: a name with no two bit labels adjacent is its own standard form. Assumes nothing.
+-- `names::inside::put_standard` meets its contract: a name with no two bit labels adjacent is its own standard form.
 use Prim.Native.Nat.{ℕ}
 use mathlib.Core.Path.{ap, _∙_, sym}
 use mathlib.Core.List.{List}

@@ -1,4 +1,4 @@
--- `numbering::inside::bucket_of` meets its contract. Assumes nothing.
+-- `numbering::inside::bucket_of` meets its contract.
 use Prim.Native.Nat.{ℕ, _%_}
 use mathlib.Core.Path.{ap, _∙_}
 use borrow.Author.Needs.{needs}

@@ -1,4 +1,4 @@
--- `numbering::inside::is_again` meets its contract. Assumes nothing.
+-- `numbering::inside::is_again` meets its contract.
 use mathlib.Core.Path.{ap, sym, _∙_}
 use Rattle.plan.specs.Layout.{ownerSlot}
 use Rattle.numbering.proofs.ListingLaws.{again-first, again-is}

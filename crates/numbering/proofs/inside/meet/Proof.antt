@@ -1,4 +1,4 @@
--- `numbering::inside::meet` meets its contract: a name that `find` finds is in the list, any other goes to its end. Assumes nothing.
+-- `numbering::inside::meet` meets its contract: a name that `find` finds is in the list, any other goes to its end.
 use Prim.Native.Nat.{ℕ, _<_}
 use mathlib.Core.Path.{_≡_, ap, _∙_}
 use native.Mathlib.Omega.{arith}
@@ -11,17 +11,34 @@ use Rattle.numbering.proofs.ListingLaws.{bucket-small, meets-known, mee
 use Rattle.numbering.proofs.inside.meet.Statement.{statement}
 use Rattle.numbering.proofs.inside.meet.Tie as tie
 
+-- ---- its places: where it begins, where the bucket is known, and where the name has been looked for
+abbrev begun : tie.After-bucket-of → tie.Start
+begun c = c .before .before .before .before .before .before
+
+abbrev bucket : tie.After-find-arg3 → tie.After-bucket-of
+bucket c = c .before .before .before
+
+abbrev bucket-found : tie.After-find → tie.After-bucket-of
+bucket-found c = bucket (c .before)
+
+abbrev begun-found : tie.After-find → tie.Start
+begun-found c = begun (bucket-found c)
+
 -- the bucket of the slot at the place
-bucket-is : (c : tie.After-bucket-of) → let a = c .before .before .before .before .before .before .args in c .bucket-of .result ≡ bucketOf (slotAt (a .table .now) (a .place))
+bucket-is : (c : tie.After-bucket-of) → let a = begun c .args in c .bucket-of .result ≡ bucketOf (slotAt (a .table .now) (a .place))
 bucket-is c = c .bucket-of .ensures ∙ ap bucketOf (c .before .slot-at .ensures .0)
 
 bucket-fits : (c : tie.After-bucket-of) → c .bucket-of .result < buckets
-bucket-fits c = rw (bucket-is c) (bucket-small (slotAt (c .before .before .before .before .before .before .args .table .now) (c .before .before .before .before .before .before .args .place)))
+bucket-fits c = rw (bucket-is c) (bucket-small (slotAt (begun c .args .table .now) (begun c .args .place)))
 
 -- the number of its name in the list
-number-is : (c : tie.After-find) → let a = c .before .before .before .before .before .before .before .before .before .before .args in c .find .result ≡ numberIn (held (a .table .now) (a .places .now) (a .count)) (nameAt (a .table .now) (a .place))
-number-is c = let a = c .before .before .before .before .before .before .before .before .before .before .args in c .find .ensures ∙ ap (λ (s : List ℕ). numberIn (held (a .table .now) (a .places .now) (a .count)) (nameIn s)) (c .before .before .before .before .before .slot-at .ensures .0)
+number-is : (c : tie.After-find) → let a = begun-found c .args in c .find .result ≡ numberIn (held (a .table .now) (a .places .now) (a .count)) (nameAt (a .table .now) (a .place))
+number-is c =
+    let a = begun-found c .args in
+    let ns = held (a .table .now) (a .places .now) (a .count) in
+    c .find .ensures ∙ ap (λ (s : List ℕ). numberIn ns (nameIn s)) (bucket-found c .before .slot-at .ensures .0)
 
+-- ---- and what it owes
 slot-at-requires : tie.Need-slot-at-requires
 slot-at-requires c κs = search needs
 
@@ -30,9 +47,9 @@ bucket-of-requires c κs = c .slot-at .ensures .1
 
 find-requires : tie.Need-find-requires
 find-requires c κs =
-    let w = c .before .before .before .before .before .before .before .before .before .pre in
-    let s = c .before .before .before .before .slot-at .ensures in
-    (w .0, s .1, rw (s .0) (w .1 .holds), c .before .before .before .bucket-of .ensures)
+    let w = begun (bucket c) .pre in
+    let s = bucket c .before .slot-at .ensures in
+    (w .0, s .1, rw (s .0) (w .1 .holds), bucket c .bucket-of .ensures)
 
 cast-t17 : tie.Need-cast-t17
 cast-t17 c = search needs
@@ -48,14 +65,16 @@ same-length-3 c = search needs
 
 returns : tie.Need-returns
 returns c =
-    let a = c .before .before .before .before .before .before .before .before .before .before .before .args in
-    meets-known (a .table .now) (a .head .now) (a .link .now) (a .places .now) (a .count) (a .place) (c .before .before .before .before .before .before .before .before .before .before .before .pre .0) (c .before .find .result) (number-is (c .before)) (c .if1 .taken)
+    let f = c .before in
+    let s = begun-found f in
+    let a = s .args in
+    meets-known (s .pre .0) (a .place) (f .find .result) (number-is f) (c .if1 .taken)
 
 mul-link : tie.Need-mul-link
-mul-link c = omega (arith, bucket-fits (c .before .before .before .before .before))
+mul-link c = omega (arith, bucket-fits (bucket-found (c .before)))
 
 slice-read-link : tie.Need-slice-read-link
-slice-read-link c = omega (arith, bucket-fits (c .before .before .before .before .before .before))
+slice-read-link c = omega (arith, bucket-fits (bucket-found (c .before .before)))
 
 mul-link-2 : tie.Need-mul-link-2
 mul-link-2 c = search needs
@@ -70,10 +89,10 @@ cast-head : tie.Need-cast-head
 cast-head c = search needs
 
 mul-head : tie.Need-mul-head
-mul-head c = omega (arith, bucket-fits (c .before .before .before .before .before .before))
+mul-head c = omega (arith, bucket-fits (bucket-found (c .before .before)))
 
 slice-write-head : tie.Need-slice-write-head
-slice-write-head c = omega (arith, bucket-fits (c .before .before .before .before .before .before))
+slice-write-head c = omega (arith, bucket-fits (bucket-found (c .before .before)))
 
 cast-places : tie.Need-cast-places
 cast-places c = search needs
@@ -101,10 +120,11 @@ same-length-6 c = search needs
 
 returns-2 : tie.Need-returns-2
 returns-2 c =
-    let a = c .before .before .before .before .before .before .before .before .before .before .before .before .args in
-    let w = c .before .before .before .before .before .before .before .before .before .before .before .before .pre in
-    let n = number-new-is (a .table .now) (a .head .now) (a .link .now) (a .places .now) (a .count) (a .place) (w .0) (c .before .before .find .result) (number-is (c .before .before)) (c .before .if1 .left) in
-    rw (bucket-is (c .before .before .before .before .before .before)) (meets-new (a .table .now) (a .head .now) (a .link .now) (a .places .now) (a .count) (a .place) (w .0) (w .2) (w .1) n)
+    let f = c .before .before in
+    let a = begun-found f .args in
+    let w = begun-found f .pre in
+    let n = number-new-is (w .0) (a .place) (f .find .result) (number-is f) (c .before .if1 .left) in
+    rw (bucket-is (bucket-found f)) (meets-new (w .0) (a .place) (w .2) (w .1) n)
 
 pub meet-spec : {M : Type 1} → statement M
 meet-spec =

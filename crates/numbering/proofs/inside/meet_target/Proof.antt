@@ -1,8 +1,10 @@
--- `numbering::inside::meet_target` meets its contract. Assumes nothing.
+-- `numbering::inside::meet_target` meets its contract.
+use Prim.Native.Nat.{_≤_}
 use mathlib.Core.Path.{_≡_, ap, sym, _∙_}
 use native.Mathlib.Omega.{arith}
 use borrow.Author.Needs.{needs}
-use Rattle.plan.specs.Layout.{recordAt}
+use mathlib.Core.Bool.{false}
+use Rattle.plan.specs.Layout.{maxRecords, countOf, recordAt}
 use Rattle.plan.specs.Check.{targetless}
 use Rattle.plan.proofs.OrderLaws.{order-count}
 use Rattle.numbering.specs.Buckets.{held}
@@ -11,10 +13,27 @@ use Rattle.numbering.proofs.ListingLaws.{meets-none, meets-target}
 use Rattle.numbering.proofs.inside.meet_target.Statement.{statement}
 use Rattle.numbering.proofs.inside.meet_target.Tie as tie
 
+-- ---- its places: where it begins, where it knows whether there is a target, where the list is lent, and where its name is met
+abbrev begun : tie.After-is-targetless → tie.Start
+begun c = c .before .before .before .before .before .before
+
+abbrev on : tie.After-meet-arg3 → tie.Else1
+on c = c .before .before .before
+
+abbrev met : tie.After-slice-known6 → tie.After-meet
+met c = c .before .before .before .before .before .before
+
+few : (c : tie.Start) → countOf (c .args .table .now) ≤ maxRecords
+few c = order-count (c .args .table .now) (c .pre .0 .0)
+
 -- whether the record has a target
-none-is : (c : tie.After-is-targetless) → let a = c .before .before .before .before .before .before .args in c .is-targetless .result ≡ targetless (recordAt (a .table .now) (a .index))
+none-is : (c : tie.After-is-targetless) → let a = begun c .args in c .is-targetless .result ≡ targetless (recordAt (a .table .now) (a .index))
 none-is c = c .is-targetless .ensures ∙ ap targetless (c .before .row .ensures .0)
 
+some-target : (c : tie.Else1) → targetless (recordAt (begun (c .before) .args .table .now) (begun (c .before) .args .index)) ≡ false
+some-target c = sym (none-is (c .before)) ∙ c .if1 .left
+
+-- ---- and what it owes
 row-requires : tie.Need-row-requires
 row-requires c κs = search needs
 
@@ -23,21 +42,21 @@ is-targetless-requires c κs = search needs
 
 returns : tie.Need-returns
 returns c =
-    let a = c .before .before .before .before .before .before .before .args in
-    let w = c .before .before .before .before .before .before .before .pre in
-    meets-none (a .table .now) (a .index) (a .head .now) (a .link .now) (a .places .now) (a .count) (w .0 .1) (sym (none-is (c .before)) ∙ c .if1 .taken)
+    let a = begun (c .before) .args in
+    let w = begun (c .before) .pre in
+    meets-none (a .table .now) (a .index) (w .0 .1) (sym (none-is (c .before)) ∙ c .if1 .taken)
 
 mul-meet : tie.Need-mul-meet
-mul-meet c = let s = c .before .before .before .before .before .before .before in omega (arith, order-count (s .args .table .now) (s .pre .0 .0))
+mul-meet c = omega (arith, few (begun (c .before)))
 
 add-meet : tie.Need-add-meet
-add-meet c = let s = c .before .before .before .before .before .before .before in omega (arith, order-count (s .args .table .now) (s .pre .0 .0))
+add-meet c = omega (arith, few (begun (c .before)))
 
 meet-requires : tie.Need-meet-requires
 meet-requires c κs =
-    let a = c .before .before .before .before .before .before .before .before .before .before .args in
-    let w = c .before .before .before .before .before .before .before .before .before .before .pre in
-    (w .0 .1, target-named (a .table .now) (w .0 .0) (a .index) (w .1 .0) (sym (none-is (c .before .before .before .before)) ∙ c .before .before .before .if1 .left), w .1 .1)
+    let a = begun (on c .before) .args in
+    let w = begun (on c .before) .pre in
+    (w .0 .1, target-named (a .table .now) (w .0 .0) (a .index) (w .1 .0) (some-target (on c)), w .1 .1)
 
 same-length : tie.Need-same-length
 same-length c = search needs
@@ -50,10 +69,11 @@ same-length-3 c = search needs
 
 returns-2 : tie.Need-returns-2
 returns-2 c =
-    let a = c .before .before .before .before .before .before .before .before .before .before .before .before .before .before .before .before .before .args in
-    let m = c .before .before .before .before .before .before .meet in
+    let e = on (met c .before) in
+    let a = begun (e .before) .args in
+    let m = met c .meet in
     let ns = held (a .table .now) (a .places .now) (a .count) in
-    meets-target (a .table .now) (a .index) (m .last .1 .1 .0) (m .last .1 .1 .1 .0) (m .last .1 .1 .1 .1 .0) (a .count) ns (m .result) (sym (none-is (c .before .before .before .before .before .before .before .before .before .before .before)) ∙ c .before .before .before .before .before .before .before .before .before .before .if1 .left) (m .ensures)
+    meets-target (a .table .now) (a .index) ns (some-target e) (m .ensures)
 
 pub meet-target-spec : {M : Type 1} → statement M
 meet-target-spec =

@@ -1,4 +1,4 @@
--- `numbering::inside::number_all` meets its contract: the records before i are numbered. Assumes nothing.
+-- `numbering::inside::number_all` meets its contract: the records before i are numbered.
 use Prim.Native.Nat.{_-_, _<_}
 use mathlib.Core.Path.{_≡_, sym, _∙_}
 use native.Mathlib.Omega.{arith}
@@ -16,50 +16,90 @@ Inv-loop table own₀ target₀ head₀ link₀ places₀ n count₀ i₀ own ta
 abbrev μ-loop : tie.MeasureT-loop
 μ-loop table own₀ target₀ head₀ link₀ places₀ n count₀ i₀ own target head link places count i = n - i
 
+-- ---- its places: where it begins, where the loop is tested, a turn of it, where the owner's name is met, and where the target's is
+abbrev Begun : Type 0
+Begun = tie.Start Inv-loop μ-loop
+
+abbrev Looping : Type 0
+Looping = tie.At-loop Inv-loop μ-loop
+
+abbrev Turn : Type 0
+Turn = tie.In-loop Inv-loop μ-loop
+
+abbrev Owner : Type 0
+Owner = tie.After-meet-owner Inv-loop μ-loop
+
+abbrev Target : Type 0
+Target = tie.After-meet-target Inv-loop μ-loop
+
+abbrev begun-counted : tie.After-count Inv-loop μ-loop → Begun
+begun-counted c = c .before .before .before .before .before .before .before
+
+abbrev begun : Looping → Begun
+begun c = begun-counted (c .before)
+
+abbrev turn-lent : tie.After-meet-owner-arg4 Inv-loop μ-loop → Turn
+turn-lent c = c .before .before .before .before
+
+abbrev turn : Owner → Turn
+turn c = turn-lent (c .before)
+
+abbrev owner : tie.After-slice-known8 Inv-loop μ-loop → Owner
+owner c = c .before .before .before .before .before .before
+
+abbrev owner-lent : tie.After-meet-target-arg3 Inv-loop μ-loop → Owner
+owner-lent c = owner (c .before .before .before)
+
+abbrev owner-before : Target → Owner
+owner-before c = owner-lent (c .before)
+
+abbrev target : tie.After-slice-known11 Inv-loop μ-loop → Target
+target c = c .before .before .before .before .before .before
+
+abbrev turned : tie.After-slice-known11 Inv-loop μ-loop → Turn
+turned c = turn (owner-before (target c))
+
 -- in a turn there is a record i
-here : (c : tie.In-loop Inv-loop μ-loop) → c .before .loop .i < countOf (c .before .before .before .before .before .before .before .before .before .args .table .now)
+here : (c : Turn) → c .before .loop .i < countOf (begun (c .before) .args .table .now)
 here c = omega arith
 
-few : (c : tie.In-loop Inv-loop μ-loop) → c .before .loop .i < maxRecords
-few c = let s = c .before .before .before .before .before .before .before .before .before in omega (arith, order-count (s .args .table .now) (s .pre .0 .0))
+few : (c : Turn) → c .before .loop .i < maxRecords
+few c = omega (arith, order-count (begun (c .before) .args .table .now) (begun (c .before) .pre .0 .0))
 
+-- ---- and what it owes
 count-requires : tie.Need-count-requires Inv-loop μ-loop
 count-requires c κs = tt
 
 loop-holds : tie.Need-loop-holds Inv-loop μ-loop
-loop-holds c =
-    let a = c .before .before .before .before .before .before .before .args in
-    (c .count .ensures, going-none (a .table .now) (a .own .now) (a .target .now) (a .head .now) (a .link .now) (a .places .now) (c .before .before .before .before .before .before .before .pre .0 .1))
+loop-holds c = (c .count .ensures, going-none (begun-counted c .pre .0 .1))
 
 meet-owner-requires : tie.Need-meet-owner-requires Inv-loop μ-loop
 meet-owner-requires c κs =
-    let a = c .before .before .before .before .before .before .before .before .before .before .before .before .before .args in
-    let w = c .before .before .before .before .before .before .before .before .before .before .before .before .before .pre in
-    let l = c .before .before .before .before .before .loop in
-    let g = l .inv .1 in
-    let m = few (c .before .before .before .before) in
-    let h = here (c .before .before .before .before) in
-    ((w .0 .0, g .listing), (h, omega arith, going-before (a .table .now) (a .own .now) (a .target .now) (l .own) (l .target) (l .head) (l .link) (l .places) (l .count) (l .i) g h (w .1 .0)))
+    let t = turn-lent c in
+    let p = begun (t .before) .pre in
+    let g = t .before .loop .inv .1 in
+    ((p .0 .0, g .listing), (here t, omega (arith, few t), going-before g (here t) (p .1 .0)))
 
 mul-own : tie.Need-mul-own Inv-loop μ-loop
-mul-own c = omega (arith, few (c .before .before .before .before .before .before .before .before .before .before .before))
+mul-own c = omega (arith, few (turn (owner c)))
 
 slice-write-own : tie.Need-slice-write-own Inv-loop μ-loop
 slice-write-own c = omega arith
 
 meet-target-requires : tie.Need-meet-target-requires Inv-loop μ-loop
 meet-target-requires c κs =
-    let g = c .before .before .before .before .before .before .before .before .before .before .before .before .before .before .before .loop .inv .1 in
-    let m = few (c .before .before .before .before .before .before .before .before .before .before .before .before .before .before) in
-    let o = c .before .before .before .before .before .before .before .before .before .meet-owner in
-    let r : o .result .count < maxNames = let u = o .ensures .most in let v = g .less in omega arith in
-    ((c .before .before .before .before .before .before .before .before .before .before .before .before .before .before .before .before .before .before .before .before .before .before .before .pre .0 .0, o .ensures .listing), (here (c .before .before .before .before .before .before .before .before .before .before .before .before .before .before), r))
+    let o = owner-lent c .meet-owner in
+    let t = turn (owner-lent c) in
+    let r : o .result .count < maxNames = omega (arith, o .ensures .most, t .before .loop .inv .1 .less, few t) in
+    ((begun (t .before) .pre .0 .0, o .ensures .listing), (here t, r))
 
 mul-target : tie.Need-mul-target Inv-loop μ-loop
-mul-target c = omega (arith, few (c .before .before .before .before .before .before .before .before .before .before .before .before .before .before .before .before .before .before .before .before .before))
+mul-target c = omega (arith, few (turned c))
 
 slice-write-target : tie.Need-slice-write-target Inv-loop μ-loop
-slice-write-target c = omega (arith, here (c .before .before .before .before .before .before .before .before .before .before .before .before .before .before .before .before .before .before .before .before .before), c .before .before .before .before .before .before .before .before .before .before .before .before .before .before .before .before .before .before .before .before .before .before .loop .inv .1 .target-kept, c .before .before .before .before .before .before .before .before .before .before .before .before .before .before .before .before .before .before .before .before .before .before .before .before .before .before .before .before .before .before .pre .1 .1)
+slice-write-target c =
+    let t = turned c in
+    omega (arith, here t, t .before .loop .inv .1 .target-kept, begun (t .before) .pre .1 .1)
 
 add-i : tie.Need-add-i Inv-loop μ-loop
 add-i c = omega arith
@@ -69,14 +109,9 @@ loop-less c = omega arith
 
 loop-again : tie.Need-loop-again Inv-loop μ-loop
 loop-again c =
-    let a = c .before .before .before .before .before .before .before .before .before .before .before .before .before .before .before .before .before .before .before .before .before .before .before .before .before .before .before .before .before .before .args in
-    let l = c .before .before .before .before .before .before .before .before .before .before .before .before .before .before .before .before .before .before .before .before .before .before .loop in
-    let m = c .before .before .before .before .before .before .before .before .before .before .before .before .before .before .before .before .meet-owner in
-    let n = c .before .before .before .before .before .before .meet-target in (
-      l .inv .0,
-      going-more (a .table .now) (a .own .now) (a .target .now) (l .own) (l .target) (l .head) (l .link) (l .places) (l .count) (l .i) (l .inv .1) (here (c .before .before .before .before .before .before .before .before .before .before .before .before .before .before .before .before .before .before .before .before .before))
-          (m .last .1 .1 .1 .0) (m .last .1 .1 .1 .1 .0) (m .last .1 .1 .1 .1 .1 .0) (n .last .1 .1 .0) (n .last .1 .1 .1 .0) (n .last .1 .1 .1 .1 .0) (m .result) (n .result) (m .ensures) (n .ensures),
-    )
+    let t = turned c in
+    let l = t .before .loop .inv in
+    (l .0, going-more (l .1) (here t) (owner-before (target c) .meet-owner .ensures) (target c .meet-target .ensures))
 
 same-length : tie.Need-same-length Inv-loop μ-loop
 same-length c = c .before .loop .inv .1 .own-kept
@@ -85,20 +120,19 @@ same-length-2 : tie.Need-same-length-2 Inv-loop μ-loop
 same-length-2 c = c .before .loop .inv .1 .target-kept
 
 same-length-3 : tie.Need-same-length-3 Inv-loop μ-loop
-same-length-3 c = c .before .loop .inv .1 .listing .heads ∙ sym (c .before .before .before .before .before .before .before .before .before .pre .0 .1 .heads)
+same-length-3 c = c .before .loop .inv .1 .listing .heads ∙ sym (begun (c .before) .pre .0 .1 .heads)
 
 same-length-4 : tie.Need-same-length-4 Inv-loop μ-loop
-same-length-4 c = c .before .loop .inv .1 .listing .links ∙ sym (c .before .before .before .before .before .before .before .before .before .pre .0 .1 .links)
+same-length-4 c = c .before .loop .inv .1 .listing .links ∙ sym (begun (c .before) .pre .0 .1 .links)
 
 same-length-5 : tie.Need-same-length-5 Inv-loop μ-loop
-same-length-5 c = c .before .loop .inv .1 .listing .room ∙ sym (c .before .before .before .before .before .before .before .before .before .pre .0 .1 .room)
+same-length-5 c = c .before .loop .inv .1 .listing .room ∙ sym (begun (c .before) .pre .0 .1 .room)
 
 returns : tie.Need-returns Inv-loop μ-loop
 returns c =
-    let a = c .before .before .before .before .before .before .before .before .before .args in
     let l = c .before .loop in
-    let h : l .i ≡ countOf (a .table .now) = let u = l .inv .1 .upto in omega arith in
-    going-all (a .table .now) (a .own .now) (a .target .now) (l .own) (l .target) (l .head) (l .link) (l .places) (l .count) (l .i) (l .inv .1) h
+    let h : l .i ≡ countOf (begun (c .before) .args .table .now) = let u = l .inv .1 .upto in omega arith in
+    going-all (l .inv .1) h
 
 pub number-all-spec : {M : Type 1} → statement M
 number-all-spec =

@@ -1,4 +1,4 @@
--- `numbering::inside::slot_at` meets its contract. Assumes nothing.
+-- `numbering::inside::slot_at` meets its contract.
 use mathlib.Core.Path.{ap, sym, _∙_}
 use borrow.Author.Needs.{needs}
 use Rattle.plan.specs.Layout.{ownerSlot, targetSlot}

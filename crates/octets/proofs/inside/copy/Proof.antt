@@ -1,4 +1,4 @@
--- `octets::inside::copy` meets its contract. Assumes nothing.
+-- `octets::inside::copy` meets its contract.
 use Prim.Native.Nat.{_+_, _-_, _≤_}
 use mathlib.Core.Path.{_≡_, refl, ap, _∙_, sym}
 use lib.ListN.{length, getD, drop, length-drop, length-set}

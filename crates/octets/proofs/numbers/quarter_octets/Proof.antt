@@ -1,4 +1,4 @@
--- `octets::numbers::quarter_octets` meets its contract. Assumes nothing.
+-- `octets::numbers::quarter_octets` meets its contract.
 use mathlib.Core.Path.{sym}
 use native.Mathlib.Omega.{arith}
 use borrow.Author.Needs.{needs}

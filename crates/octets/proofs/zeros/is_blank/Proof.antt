@@ -1,4 +1,4 @@
--- `octets::zeros::is_blank` meets its contract: what is passed is zero so far, and what is left decides the rest. Assumes nothing.
+-- `octets::zeros::is_blank` meets its contract: what is passed is zero so far, and what is left decides the rest.
 use Prim.Native.Nat.{_-_}
 use mathlib.Core.Path.{_≡_, refl, _∙_, sym}
 use mathlib.Core.Bool.{_&&_}

@@ -1,7 +1,7 @@
 use mathlib.Core.List.{append-nil}
 use lib.ListN.{take, drop}
 use Rattle.plan.specs.Layout.{addressSize, addressPlace, addressOf}
--- `plan::inside::address` meets its contract. Assumes nothing.
+-- `plan::inside::address` meets its contract.
 use borrow.Author.Needs.{needs}
 use mathlib.Core.Path.{ap, _∙_}
 use Rattle.plan.proofs.inside.address.Statement.{statement}

@@ -1,4 +1,4 @@
--- `plan::inside::address_of` meets its contract. Assumes nothing.
+-- `plan::inside::address_of` meets its contract.
 use borrow.Author.Needs.{needs}
 use Rattle.plan.specs.Layout.{addressOf}
 use Rattle.plan.proofs.inside.address_of.Statement.{statement}

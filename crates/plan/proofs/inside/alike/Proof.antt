@@ -1,11 +1,38 @@
--- `plan::inside::alike` meets its contract: eight octets at a time. Assumes nothing.
+-- `plan::inside::alike` meets its contract: eight octets at a time.
 use native.Mathlib.Omega.{arith}
-use mathlib.Core.Path.{_∙_, sym}
+use mathlib.Core.Path.{_≡_, _∙_, sym}
+use Rattle.plan.specs.Marks.{pairAt}
 use Rattle.plan.proofs.AlikeLaws.{alike-off, alike-on}
 use borrow.Author.Needs.{needs}
 use Rattle.plan.proofs.inside.alike.Statement.{statement}
 use Rattle.plan.proofs.inside.alike.Tie as tie
 
+-- ---- what is known where each eight octets have been compared
+abbrev begun-1 : tie.After-pair2 → tie.Start
+begun-1 c = c .before .before .before .before
+
+abbrev begun-2 : tie.After-pair4 → tie.Start
+begun-2 c = begun-1 (c .before .before .before)
+
+abbrev begun-3 : tie.After-pair6 → tie.Start
+begun-3 c = begun-2 (c .before .before .before)
+
+abbrev begun-4 : tie.After-pair8 → tie.Start
+begun-4 c = begun-3 (c .before .before .before)
+
+same-1 : (c : tie.Else1) → pairAt (begun-1 (c .before) .args .a .now) 0 ≡ pairAt (begun-1 (c .before) .args .b .now) 0
+same-1 c = sym (c .before .before .pair .ensures) ∙ c .if1 .left ∙ c .before .pair2 .ensures
+
+same-2 : (c : tie.Else2) → pairAt (begun-2 (c .before) .args .a .now) 8 ≡ pairAt (begun-2 (c .before) .args .b .now) 8
+same-2 c = sym (c .before .before .pair3 .ensures) ∙ c .if2 .left ∙ c .before .pair4 .ensures
+
+same-3 : (c : tie.Else3) → pairAt (begun-3 (c .before) .args .a .now) 16 ≡ pairAt (begun-3 (c .before) .args .b .now) 16
+same-3 c = sym (c .before .before .pair5 .ensures) ∙ c .if3 .left ∙ c .before .pair6 .ensures
+
+same-4 : (c : tie.Else4) → pairAt (begun-4 (c .before) .args .a .now) 24 ≡ pairAt (begun-4 (c .before) .args .b .now) 24
+same-4 c = sym (c .before .before .pair7 .ensures) ∙ c .if4 .left ∙ c .before .pair8 .ensures
+
+-- ---- and what it owes
 pair-requires : tie.Need-pair-requires
 pair-requires c κs = search needs
 
@@ -14,8 +41,9 @@ pair-requires-2 c κs = search needs
 
 returns : tie.Need-returns
 returns c =
-    let a = c .before .before .before .before .before .args in
-    sym (alike-off (a .a .now) (a .b .now) 0 (omega arith) (λ h. c .if1 .taken (c .before .before .pair .ensures ∙ h ∙ sym (c .before .pair2 .ensures))))
+    let k = c .before in
+    let a = begun-1 k .args in
+    sym (alike-off (a .a .now) (a .b .now) 0 (omega arith) (λ h. c .if1 .taken (k .before .pair .ensures ∙ h ∙ sym (k .pair2 .ensures))))
 
 pair-requires-3 : tie.Need-pair-requires-3
 pair-requires-3 c κs = search needs
@@ -25,8 +53,9 @@ pair-requires-4 c κs = search needs
 
 returns-2 : tie.Need-returns-2
 returns-2 c =
-    let a = c .before .before .before .before .before .before .before .before .args in
-    sym (alike-off (a .a .now) (a .b .now) 8 (omega arith) (λ h. c .if2 .taken (c .before .before .pair3 .ensures ∙ h ∙ sym (c .before .pair4 .ensures))))
+    let k = c .before in
+    let a = begun-2 k .args in
+    sym (alike-off (a .a .now) (a .b .now) 8 (omega arith) (λ h. c .if2 .taken (k .before .pair3 .ensures ∙ h ∙ sym (k .pair4 .ensures))))
 
 pair-requires-5 : tie.Need-pair-requires-5
 pair-requires-5 c κs = search needs
@@ -36,8 +65,9 @@ pair-requires-6 c κs = search needs
 
 returns-3 : tie.Need-returns-3
 returns-3 c =
-    let a = c .before .before .before .before .before .before .before .before .before .before .before .args in
-    sym (alike-off (a .a .now) (a .b .now) 16 (omega arith) (λ h. c .if3 .taken (c .before .before .pair5 .ensures ∙ h ∙ sym (c .before .pair6 .ensures))))
+    let k = c .before in
+    let a = begun-3 k .args in
+    sym (alike-off (a .a .now) (a .b .now) 16 (omega arith) (λ h. c .if3 .taken (k .before .pair5 .ensures ∙ h ∙ sym (k .pair6 .ensures))))
 
 pair-requires-7 : tie.Need-pair-requires-7
 pair-requires-7 c κs = search needs
@@ -47,22 +77,23 @@ pair-requires-8 c κs = search needs
 
 returns-4 : tie.Need-returns-4
 returns-4 c =
-    let a = c .before .before .before .before .before .before .before .before .before .before .before .before .before .before .args in
-    sym (alike-off (a .a .now) (a .b .now) 24 (omega arith) (λ h. c .if4 .taken (c .before .before .pair7 .ensures ∙ h ∙ sym (c .before .pair8 .ensures))))
+    let k = c .before in
+    let a = begun-4 k .args in
+    sym (alike-off (a .a .now) (a .b .now) 24 (omega arith) (λ h. c .if4 .taken (k .before .pair7 .ensures ∙ h ∙ sym (k .pair8 .ensures))))
 
 shared-slice-read-result : tie.Need-shared-slice-read-result
 shared-slice-read-result c = search needs
 
 returns-5 : tie.Need-returns-5
 returns-5 c =
-    let a = c .before .before .before .before .before .before .before .before .before .before .before .before .before .before .before .args in
-    let w = c .before .before .before .before .before .before .before .before .before .before .before .before .before .before .before .pre in
-    sym (alike-on (a .a .now) (a .b .now) (w .0) (w .1)
-    (λ i. c .before .before .before .before .before .before .before .before .before .before .before .before .before .before .shared-slice-known .given i .fits) (λ i. c .before .before .before .before .before .before .before .before .before .before .before .before .before .shared-slice-known2 .given i .fits)
-    (sym (c .before .before .before .before .before .before .before .before .before .before .before .before .pair .ensures) ∙ c .before .before .before .before .before .before .before .before .before .before .if1 .left ∙ c .before .before .before .before .before .before .before .before .before .before .before .pair2 .ensures)
-    (sym (c .before .before .before .before .before .before .before .before .before .pair3 .ensures) ∙ c .before .before .before .before .before .before .before .if2 .left ∙ c .before .before .before .before .before .before .before .before .pair4 .ensures)
-    (sym (c .before .before .before .before .before .before .pair5 .ensures) ∙ c .before .before .before .before .if3 .left ∙ c .before .before .before .before .before .pair6 .ensures)
-    (sym (c .before .before .before .pair7 .ensures) ∙ c .before .if4 .left ∙ c .before .before .pair8 .ensures))
+    let fourth = c .before in
+    let third = fourth .before .before .before in
+    let second = third .before .before .before in
+    let first = second .before .before .before in
+    let known = first .before .before .before in
+    let s = begun-1 (first .before) in
+    sym (alike-on (s .args .a .now) (s .args .b .now) (s .pre .0) (s .pre .1) (λ i. known .before .shared-slice-known .given i .fits) (λ i. known .shared-slice-known2 .given i .fits)
+    (same-1 first) (same-2 second) (same-3 third) (same-4 fourth))
 
 pub alike-spec : {M : Type 1} → statement M
 alike-spec =

@@ -1,4 +1,4 @@
--- `plan::inside::count` meets its contract. Assumes nothing.
+-- `plan::inside::count` meets its contract.
 use borrow.Author.Needs.{needs}
 use Rattle.plan.specs.Layout.{countOf}
 use Rattle.plan.proofs.inside.count.Statement.{statement}

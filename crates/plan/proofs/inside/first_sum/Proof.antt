@@ -1,4 +1,4 @@
--- `plan::inside::first_sum` meets its contract. Assumes nothing.
+-- `plan::inside::first_sum` meets its contract.
 use native.Mathlib.Omega.{arith}
 use Rattle.plan.proofs.MarkLaws.{sum-eight}
 use borrow.Author.Needs.{needs}

@@ -1,4 +1,4 @@
--- `plan::inside::is_targetless` meets its contract. Assumes nothing.
+-- `plan::inside::is_targetless` meets its contract.
 use mathlib.Core.Path.{ap, _∙_, sym}
 use Prim.Native.Nat.{ℕ}
 use lib.Dec.{eqb}

@@ -1,4 +1,4 @@
--- `plan::inside::kind` meets its contract. Assumes nothing.
+-- `plan::inside::kind` meets its contract.
 use borrow.Author.Needs.{needs}
 use mathlib.Core.Path.{ap, _∙_}
 use Rattle.plan.specs.Layout.{typeOf}

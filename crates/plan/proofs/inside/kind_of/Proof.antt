@@ -1,4 +1,4 @@
--- `plan::inside::kind_of` meets its contract. Assumes nothing.
+-- `plan::inside::kind_of` meets its contract.
 use borrow.Author.Needs.{needs}
 use native.Mathlib.Omega.{arith}
 use Rattle.plan.specs.Layout.{typeOf}

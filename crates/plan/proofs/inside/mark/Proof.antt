@@ -1,4 +1,4 @@
--- `plan::inside::mark` meets its contract. Assumes nothing.
+-- `plan::inside::mark` meets its contract.
 use Rattle.plan.specs.Marks.{markOf}
 use borrow.Author.Needs.{needs}
 use Rattle.plan.proofs.inside.mark.Statement.{statement}

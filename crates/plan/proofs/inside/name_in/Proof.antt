@@ -1,4 +1,4 @@
--- `plan::inside::name_in` meets its contract. Assumes nothing.
+-- `plan::inside::name_in` meets its contract.
 use borrow.Author.Needs.{needs}
 use native.Mathlib.Omega.{arith}
 use Prim.Native.Nat.{ℕ, _+_, _-_}

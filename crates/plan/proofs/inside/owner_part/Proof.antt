@@ -1,4 +1,4 @@
--- `plan::inside::owner_part` meets its contract. Assumes nothing.
+-- `plan::inside::owner_part` meets its contract.
 use native.Mathlib.Omega.{arith}
 use Rattle.plan.specs.Layout.{countOf}
 use Rattle.plan.specs.Part.{ownerWithin}

@@ -1,4 +1,4 @@
--- `plan::inside::owner_slot` meets its contract. Assumes nothing.
+-- `plan::inside::owner_slot` meets its contract.
 use borrow.Author.Needs.{needs}
 use Rattle.plan.specs.Layout.{ownerSlot}
 use Rattle.plan.proofs.inside.owner_slot.Statement.{statement}

@@ -1,4 +1,4 @@
--- `plan::inside::pair` meets its contract. Assumes nothing.
+-- `plan::inside::pair` meets its contract.
 use native.Mathlib.Omega.{arith}
 use Rattle.plan.specs.Marks.{pairAt}
 use borrow.Author.Needs.{needs}

@@ -1,4 +1,4 @@
--- `plan::inside::prefix_of` meets its contract. Assumes nothing.
+-- `plan::inside::prefix_of` meets its contract.
 use borrow.Author.Needs.{needs}
 use Rattle.plan.specs.Layout.{prefixOf}
 use Rattle.plan.proofs.inside.prefix_of.Statement.{statement}

@@ -1,4 +1,4 @@
--- `plan::inside::same` meets its contract: slots that are alike hold the same name. Assumes nothing.
+-- `plan::inside::same` meets its contract: slots that are alike hold the same name.
 use mathlib.Core.Path.{ap, _∙_, sym}
 use Rattle.names.specs.Standard.{inStandardForm}
 use Rattle.plan.proofs.AlikeLaws.{alike-same}
@@ -21,14 +21,12 @@ name-in-requires-2 : tie.Need-name-in-requires-2
 name-in-requires-2 c κs = search needs
 
 equal-requires : tie.Need-equal-requires
-equal-requires c κs = search needs
+equal-requires c κs =
+    let w = c .before .before .before .before .before .before .pre .1 in
+    (ap inStandardForm (c .before .name-in .ensures) ∙ w .0, ap inStandardForm (c .name-in2 .ensures) ∙ w .1)
 
 returns-2 : tie.Need-returns-2
-returns-2 c =
-    let w = c .before .before .before .before .before .before .before .pre .1 in
-    let p = c .before .before .name-in .ensures in
-    let q = c .before .name-in2 .ensures in
-    c .equal .ensures .1 (ap inStandardForm p ∙ w .0) (ap inStandardForm q ∙ w .1) ∙ rw (p, q)
+returns-2 c = c .equal .ensures ∙ rw (c .before .before .name-in .ensures, c .before .name-in2 .ensures)
 
 pub same-spec : {M : Type 1} → statement M
 same-spec =

@@ -1,4 +1,4 @@
--- `plan::inside::slot_of` meets its contract: the length, the name, and the zeros that were there. Assumes nothing.
+-- `plan::inside::slot_of` meets its contract: the length, the name, and the zeros that were there.
 use mathlib.Core.Path.{_∙_}
 use Rattle.octets.specs.Octets.{blank}
 use Rattle.plan.proofs.SlotLaws.{slot-written}

@@ -1,4 +1,4 @@
--- `plan::inside::sum_of` meets its contract. Assumes nothing.
+-- `plan::inside::sum_of` meets its contract.
 use native.Mathlib.Omega.{arith}
 use mathlib.Core.Path.{_∙_, sym}
 use Rattle.plan.proofs.MarkLaws.{sum-short, sum-long}

@@ -1,4 +1,4 @@
--- `plan::inside::target` meets its contract. Assumes nothing.
+-- `plan::inside::target` meets its contract.
 use borrow.Author.Needs.{needs}
 use mathlib.Core.Path.{ap, _∙_}
 use Rattle.plan.specs.Layout.{nameIn, targetSlot}

@@ -1,4 +1,4 @@
--- `plan::inside::target_slot` meets its contract. Assumes nothing.
+-- `plan::inside::target_slot` meets its contract.
 use borrow.Author.Needs.{needs}
 use Rattle.plan.specs.Layout.{targetSlot}
 use Rattle.plan.proofs.inside.target_slot.Statement.{statement}

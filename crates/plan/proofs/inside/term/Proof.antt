@@ -1,4 +1,4 @@
--- `plan::inside::term` meets its contract. Assumes nothing.
+-- `plan::inside::term` meets its contract.
 use native.Mathlib.Omega.{arith}
 use Rattle.plan.specs.Marks.{termAt}
 use Rattle.plan.proofs.MarkLaws.{term-fits}

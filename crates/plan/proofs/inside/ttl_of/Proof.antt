@@ -1,4 +1,4 @@
--- `plan::inside::ttl_of` meets its contract. Assumes nothing.
+-- `plan::inside::ttl_of` meets its contract.
 use borrow.Author.Needs.{needs}
 use Rattle.plan.specs.Layout.{ttlOf}
 use Rattle.plan.proofs.inside.ttl_of.Statement.{statement}

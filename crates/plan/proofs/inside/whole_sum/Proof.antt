@@ -1,4 +1,4 @@
--- `plan::inside::whole_sum` meets its contract: the sum is that of the words passed. Assumes nothing.
+-- `plan::inside::whole_sum` meets its contract: the sum is that of the words passed.
 use native.Mathlib.Omega.{arith}
 use mathlib.Core.Path.{_≡_, ap, _∙_}
 use Prim.Native.Nat.{_-_, _*_, _^_, _≤_, _<_}

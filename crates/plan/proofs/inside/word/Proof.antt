@@ -1,4 +1,4 @@
--- `plan::inside::word` meets its contract. Assumes nothing.
+-- `plan::inside::word` meets its contract.
 use native.Mathlib.Omega.{arith}
 use Rattle.plan.specs.Marks.{wordAt}
 use borrow.Author.Needs.{needs}

@@ -1,8 +1,10 @@
--- `plan::inside::write_record` meets its contract: five copies, each where the one before it ended. Assumes nothing.
-use Prim.Native.Nat.{_+_, _^_, _<_}
-use mathlib.Core.Path.{_≡_, _∙_}
+-- `plan::inside::write_record` meets its contract: five copies, each where the one before it ended.
+use Prim.Native.Nat.{ℕ, _+_, _^_, _<_}
+use mathlib.Core.Path.{_≡_, ap, _∙_}
+use mathlib.Core.List.{List}
 use lib.ListN.{length}
-use Rattle.plan.specs.Layout.{addressSize, ttlPlace}
+use lib.Seq.{paste}
+use Rattle.plan.specs.Layout.{addressSize, ttlPlace, ttlSize}
 use Rattle.plan.proofs.WriteLaws.{record-written}
 use borrow.Author.Needs.{needs}
 use Rattle.plan.proofs.inside.write_record.Statement.{statement}
@@ -14,6 +16,22 @@ sixteen s = search needs
 
 room : (s : tie.Start) → s .args .to + ttlPlace < 2 ^ 64
 room s = search needs
+
+-- the ways back, from each copy to the one before it
+abbrev begun : tie.After-copy → tie.Start
+begun c = c .before .before .before .before .before .before
+
+abbrev first : tie.After-copy2 → tie.After-copy
+first c = c .before .before .before .before .before
+
+abbrev second : tie.After-copy3 → tie.After-copy2
+second c = c .before .before .before .before
+
+abbrev third : tie.After-copy4 → tie.After-copy3
+third c = c .before .before .before .before
+
+abbrev fourth : tie.After-copy-arg5 → tie.After-copy4
+fourth c = c .before .before .before .before .before
 
 cast-t13 : tie.Need-cast-t13
 cast-t13 c = search needs
@@ -55,7 +73,7 @@ slice-aggregate-copy-3 : tie.Need-slice-aggregate-copy-3
 slice-aggregate-copy-3 c = search needs
 
 add-copy-4 : tie.Need-add-copy-4
-add-copy-4 c = record { fits = room (c .before .before .before .before .before .before .before .before .before .before .before .before .before .before .before .before .before .before .before .before .before .before .before .before) }
+add-copy-4 c = record { fits = room (begun (first (second (third (fourth c))))) }
 
 copy-requires-5 : tie.Need-copy-requires-5
 copy-requires-5 c κs = search needs
@@ -65,11 +83,17 @@ same-length c = search needs
 
 returns : tie.Need-returns
 returns c =
-    let a = c .before .before .before .before .before .before .before .before .before .before .before .before .before .before .before .before .before .before .before .before .before .before .before .before .before .before .before .args in
-    let w = c .before .before .before .before .before .before .before .before .before .before .before .before .before .before .before .before .before .before .before .before .before .before .before .before .before .before .before .pre in
-    record-written (a .out .now) _ _ _ _ _ (a .t3) (a .owner .now) (a .target .now) (a .kind) (a .prefix) (a .ttl) (a .to) (sixteen (c .before .before .before .before .before .before .before .before .before .before .before .before .before .before .before .before .before .before .before .before .before .before .before .before .before .before .before)) (w .0) (w .1) (w .2)
-    (c .before .before .before .before .before .before .before .before .before .before .before .before .before .before .before .before .before .before .before .before .before .copy .ensures) (c .before .before .before .before .before .before .before .before .before .before .before .before .before .before .before .before .copy2 .ensures) (c .before .before .before .before .before .before .before .before .before .before .before .before .copy3 .ensures) (c .before .before .before .before .before .before .before .before .copy4 .ensures)
-    (c .before .before .copy5 .ensures ∙ rw (c .before .before .before .before .before .quarter-octets .ensures))
+    let e = c .before .before in
+    let d = fourth (e .before) in
+    let k = third d in
+    let j = second k in
+    let i = first j in
+    let s = begun i in
+    let a = s .args in
+    let w = s .pre in
+    record-written (a .out .now) _ _ _ _ _ (a .t3) (a .owner .now) (a .target .now) (a .kind) (a .prefix) (a .ttl) (a .to) (sixteen s) (w .0) (w .1) (w .2)
+    (i .copy .ensures) (j .copy2 .ensures) (k .copy3 .ensures) (d .copy4 .ensures)
+    (e .copy5 .ensures ∙ ap (λ (v : List ℕ). paste (d .copy4 .last .1 .1 .1 .0) (a .to + ttlPlace) v ttlSize) (e .before .before .before .quarter-octets .ensures))
 
 pub write-record-spec : {M : Type 1} → statement M
 write-record-spec =

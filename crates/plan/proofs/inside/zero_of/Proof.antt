@@ -1,4 +1,4 @@
--- `plan::inside::zero_of` meets its contract. Assumes nothing.
+-- `plan::inside::zero_of` meets its contract.
 use borrow.Author.Needs.{needs}
 use Rattle.plan.specs.Layout.{zeroOf}
 use Rattle.plan.proofs.inside.zero_of.Statement.{statement}

@@ -1,9 +1,9 @@
--- `rewriting::inside::find` meets its contract. The loop's invariant: so many units are still to be passed. Assumes nothing.
-use Rattle.rewriting.proofs.SpotLaws.{Seeking, seeking-start, seeking-on, seeking-found, seeking-never}
-use Rattle.names.proofs.MergeLaws.{begins-inside}
-use native.Mathlib.Omega.{arith}
-use lib.ListN.{length}
+-- `rewriting::inside::find` meets its contract. The loop's invariant: so many units are still to be passed.
 use Prim.Native.Nat.{_-_}
+use lib.ListN.{length}
+use native.Mathlib.Omega.{arith}
+use Rattle.names.proofs.MergeLaws.{begins-inside}
+use Rattle.rewriting.proofs.SpotLaws.{passed-within, Seeking, seeking-start, seeking-on, seeking-found, seeking-never}
 use Rattle.rewriting.proofs.inside.find.Statement.{statement}
 use Rattle.rewriting.proofs.inside.find.Tie as tie
 
@@ -13,31 +13,40 @@ Inv-loop name j at₀ left₀ at left = Seeking name j at left
 abbrev μ-loop : tie.MeasureT-loop
 μ-loop name j at₀ left₀ at left = length name - at
 
+-- ---- the places: `Looping` where the loop is tested, `Passed` where a label is passed
+abbrev Looping : Type 0
+Looping = tie.At-loop Inv-loop μ-loop
+
+abbrev Passed : Type 0
+Passed = tie.After-pass Inv-loop μ-loop
+
+abbrev begun : Looping → tie.Start Inv-loop μ-loop
+begun c = c .before .before
+
+abbrev looping : Passed → Looping
+looping c = c .before .before .before
+
+-- ---- and what it owes
 loop-holds : tie.Need-loop-holds Inv-loop μ-loop
-loop-holds c = seeking-start (c .before .args .name .now) (c .before .args .j) (c .before .pre .0) (c .before .pre .1)
+loop-holds c = let s = c .before in seeking-start (s .args .name .now) (s .args .j) (s .pre .0) (s .pre .1)
 
 shared-slice-read-if1 : tie.Need-shared-slice-read-if1 Inv-loop μ-loop
-shared-slice-read-if1 c = begins-inside (c .before .before .before .args .name .now) (c .before .loop .at) (c .before .loop .inv .begins)
+shared-slice-read-if1 c = let l = c .before in begins-inside (begun l .args .name .now) (l .loop .at) (l .loop .inv .begins)
 
 pass-requires : tie.Need-pass-requires Inv-loop μ-loop
 pass-requires c κs = (c .before .before .loop .inv .begins, omega (arith, c .if1 .taken))
 
 returns : tie.Need-returns Inv-loop μ-loop
-returns c = seeking-found (c .before .before .before .before .before .before .args .name .now) (c .before .before .before .before .before .before .args .j) _ (c .before .before .before .before .loop .inv) (c .before .pass .ensures) (c .if2 .taken)
+returns c = let t = c .before .pass in seeking-found (looping (c .before) .loop .inv) (t .result .end) (t .result .units) (t .ensures) (c .if2 .taken)
 
 loop-less : tie.Need-loop-less Inv-loop μ-loop
-loop-less c =
-    let t = c .before .pass .ensures in
-    let i = begins-inside (c .before .before .before .before .before .before .args .name .now) (c .before .pass .result .end) (t .begins) in
-    omega (arith, t .on)
+loop-less c = let w = passed-within (c .before .pass .ensures) in omega arith
 
 loop-again : tie.Need-loop-again Inv-loop μ-loop
-loop-again c =
-    let l = c .before .before .before .before .loop in
-    seeking-on (c .before .before .before .before .before .before .args .name .now) (c .before .before .before .before .before .before .args .j) (l .at) (l .left) (c .before .pass .result .end) (c .before .pass .result .units) (l .inv) (c .before .pass .ensures) (omega (arith, c .if2 .left))
+loop-again c = seeking-on (looping (c .before) .loop .inv) (c .before .pass .ensures) (omega (arith, c .if2 .left))
 
 returns-2 : tie.Need-returns-2 Inv-loop μ-loop
-returns-2 c = absurd (seeking-never (c .before .before .before .before .args .name .now) (c .before .before .before .before .args .j) (c .before .before .loop .at) (c .before .before .loop .left) (c .before .before .loop .inv) (c .if1 .left))
+returns-2 c = absurd (seeking-never (c .before .before .loop .inv) (c .if1 .left))
 
 pub find-spec : {M : Type 1} → statement M
 find-spec =

@@ -1,4 +1,4 @@
--- `rows::inside::is_at` meets its contract: a row is an address where both halves are the same. Assumes nothing.
+-- `rows::inside::is_at` meets its contract: a row is an address where both halves are the same.
 use Prim.Native.Nat.{ℕ}
 use mathlib.Core.Path.{sym, ap, _∙_}
 use native.Mathlib.Omega.{arith}

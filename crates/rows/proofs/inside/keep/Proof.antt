@@ -1,4 +1,4 @@
--- `rows::inside::keep` meets its contract: the row that the hint leads to is the address, or the address is sought. Assumes nothing.
+-- `rows::inside::keep` meets its contract: the row that the hint leads to is the address, or the address is sought.
 use Prim.Native.Nat.{ℕ}
 use mathlib.Core.Path.{sym, ap, _∙_}
 use mathlib.Core.List.{List}
@@ -10,6 +10,10 @@ use Rattle.rows.proofs.HalvesLaws.{address-length}
 use Rattle.rows.proofs.KeepingLaws.{keep-met}
 use Rattle.rows.proofs.inside.keep.Statement.{statement}
 use Rattle.rows.proofs.inside.keep.Tie as tie
+
+-- ---- its places: where the hint is read
+abbrev begun : tie.After-hint → tie.Start
+begun c = c .before .before .before .before .before
 
 element-copy-out-count : tie.Need-element-copy-out-count
 element-copy-out-count c = search needs
@@ -43,18 +47,20 @@ same-length-2 c = search needs
 
 returns : tie.Need-returns
 returns c =
-    let a = c .before .before .before .before .before .before .before .before .before .before .before .before .before .args in
-    let p = c .before .before .before .before .before .before .before .before .before .before .before .before .before .pre in (
-      ap (λ (l : List ℕ). kept (a .out .now) l (a .figures .now)) (c .before .before .lower .ensures) ∙ keep-met (addressOf (a .high) (a .low)) (a .ttl) (kept (a .out .now) (a .lives .now) (a .figures .now)) (address-length (a .high) (a .low)) (p .3) (p .4) _ (c .before .before .before .before .before .before .before .if1 .taken) (sym (c .before .before .before .before .before .is-at .ensures) ∙ c .before .before .before .before .if2 .taken),
-      p .0,
-      p .1,
-    )
+    let met = c .before .before .before .before in
+    let seen = met .before in
+    let h = seen .before .before in
+    let a = begun (h .before) .args in
+    let p = begun (h .before) .pre in
+    let e = keep-met (addressOf (a .high) (a .low)) (a .ttl) (kept (a .out .now) (a .lives .now) (a .figures .now)) (address-length (a .high) (a .low)) (p .3) (p .4) _ (h .if1 .taken)
+    (sym (seen .is-at .ensures) ∙ met .if2 .taken) in
+    (ap (λ (l : List ℕ). kept (a .out .now) l (a .figures .now)) (c .before .before .lower .ensures) ∙ e, p .0, p .1)
 
 keep-sought-requires : tie.Need-keep-sought-requires
 keep-sought-requires c κs =
-    let a = c .before .before .before .before .before .before .before .before .before .args in
-    let p = c .before .before .before .before .before .before .before .before .before .pre in
-    let l = c .before .before .before .before .before .spot-of .ensures in
+    let h = c .before .before .before .before in
+    let p = begun h .pre in
+    let l = h .before .spot-of .ensures in
     ((p .0, p .1, p .2), (omega arith, omega arith, p .4))
 
 same-length-3 : tie.Need-same-length-3

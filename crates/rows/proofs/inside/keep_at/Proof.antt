@@ -1,11 +1,11 @@
--- `rows::inside::keep_at` meets its contract, case by case. Assumes nothing.
+-- `rows::inside::keep_at` meets its contract, case by case.
 use Prim.Native.Nat.{ℕ, _+_, _<_}
 use mathlib.Core.Path.{_≡_, sym, ap, _∙_}
 use mathlib.Core.Logic.{⊎-elim}
 use mathlib.Core.Bool.{false}
 use mathlib.Core.List.{List}
 use native.Mathlib.Omega.{arith}
-use lib.ListN.{getD, set, length-set}
+use lib.ListN.{getD, length-set}
 use lib.Seq.{getD-set-same, getD-set-other}
 use borrow.Author.Needs.{needs}
 use Rattle.address.specs.Order.{orderOf}
@@ -15,11 +15,19 @@ use Rattle.rows.proofs.RowsLaws.{keep-found, kept-new, kept-over}
 use Rattle.rows.proofs.inside.keep_at.Statement.{statement}
 use Rattle.rows.proofs.inside.keep_at.Tie as tie
 
+-- ---- its places: where the count is read, and where the row is known not to be the address
+abbrev begun : tie.After-count → tie.Start
+begun c = c .before .before .before
+
+abbrev begun-past : tie.Joined1 → tie.Start
+begun-past c = begun (c .before)
+
 -- past the test, the address stands not at the row
-absent : (c : tie.Joined1) → c .before .before .before .before .args .k < getD (c .before .before .before .before .args .figures .now) 0 0
-    → isSame (orderOf (row (c .before .before .before .before .args .out .now) (c .before .before .before .before .args .k)) (addressOf (c .before .before .before .before .args .high) (c .before .before .before .before .args .low))) ≡ false
+absent : (c : tie.Joined1)
+    → let a = begun-past c .args in a .k < getD (a .figures .now) 0 0 → isSame (orderOf (row (a .out .now) (a .k)) (addressOf (a .high) (a .low))) ≡ false
 absent c = ⊎-elim (λ w l. sym (w .2 .ensures) ∙ w .3 .left) (λ w l. absurd (omega (arith, w .left))) (c .if1 .came)
 
+-- ---- and what it owes
 element-copy-out-count : tie.Need-element-copy-out-count
 element-copy-out-count c = search needs
 
@@ -40,12 +48,13 @@ same-length-2 c = search needs
 
 returns : tie.Need-returns
 returns c =
-    let a = c .before .before .before .before .before .before .before .before .before .before .before .args in
-    let p = c .before .before .before .before .before .before .before .before .before .before .before .pre in (
-      ap (λ (l : List ℕ). kept (a .out .now) l (a .figures .now)) (c .before .before .lower .ensures) ∙ keep-found (addressOf (a .high) (a .low)) (a .ttl) (kept (a .out .now) (a .lives .now) (a .figures .now)) (a .k) (c .before .before .before .before .before .before .before .if1 .taken) (sym (c .before .before .before .before .before .is-at .ensures) ∙ c .before .before .before .before .if2 .taken),
-      p .0 .0,
-      p .0 .1,
-    )
+    let met = c .before .before .before .before in
+    let seen = met .before in
+    let h = seen .before .before in
+    let a = begun (h .before) .args in
+    let p = begun (h .before) .pre in
+    let e = keep-found (addressOf (a .high) (a .low)) (a .ttl) (kept (a .out .now) (a .lives .now) (a .figures .now)) (a .k) (h .if1 .taken) (sym (seen .is-at .ensures) ∙ met .if2 .taken) in
+    (ap (λ (l : List ℕ). kept (a .out .now) l (a .figures .now)) (c .before .before .lower .ensures) ∙ e, p .0 .0, p .0 .1)
 
 mul-end : tie.Need-mul-end
 mul-end c = search needs
@@ -73,13 +82,16 @@ same-length-4 c = search needs
 
 returns-2 : tie.Need-returns-2
 returns-2 c =
-    let a = c .before .before .before .before .before .before .before .before .before .before .before .before .before .args in
-    let p = c .before .before .before .before .before .before .before .before .before .before .before .before .before .pre in
-    let t = c .before .before .before .before .before .before .before .before .if3 .taken in
+    let lived = c .before .before in
+    let stored = lived .before .before .before .before in
+    let t = stored .before .before in
+    let a = begun-past (t .before) .args in
+    let p = begun-past (t .before) .pre in
     let g = getD-set-same (a .figures .now) 0 (getD (a .figures .now) 0 0 + 1) 0 (omega arith) in (
-      kept-new (addressOf (a .high) (a .low)) (a .ttl) (a .out .now) (a .lives .now) (a .figures .now) (p .0 .0) (a .k) (absent (c .before .before .before .before .before .before .before .before .before)) (p .1 .1) t (c .before .before .before .before .before .before .put .last .0) (c .before .before .put-life .last .0) (c .before .before .before .before .before .before .put .ensures) (c .before .before .put-life .ensures),
+      kept-new (addressOf (a .high) (a .low)) (a .ttl) (a .out .now) (a .lives .now) (a .figures .now) (p .0 .0) (a .k) (absent (t .before)) (p .1 .1) (t .if3 .taken) (stored .put .last .0)
+          (lived .put-life .last .0) (stored .put .ensures) (lived .put-life .ensures),
       length-set (a .figures .now) 0 (getD (a .figures .now) 0 0 + 1) ∙ p .0 .0,
-      omega (arith, g, t),
+      omega (arith, g, t .if3 .taken),
     )
 
 element-write-figures-2 : tie.Need-element-write-figures-2
@@ -87,8 +99,8 @@ element-write-figures-2 c = search needs
 
 returns-3 : tie.Need-returns-3
 returns-3 c =
-    let a = c .before .before .before .before .before .args in
-    let p = c .before .before .before .before .before .pre in
+    let a = begun-past (c .before) .args in
+    let p = begun-past (c .before) .pre in
     let g = getD-set-other (a .figures .now) 1 0 1 0 (λ z. omega arith) in (
       kept-over (addressOf (a .high) (a .low)) (a .ttl) (a .out .now) (a .lives .now) (a .figures .now) (p .0 .0) (a .k) (absent (c .before)) (omega (arith, c .if3 .left)),
       length-set (a .figures .now) 1 1 ∙ p .0 .0,

@@ -1,4 +1,4 @@
--- `rows::inside::keep_sought` meets its contract: a hint changes nothing of what is kept. Assumes nothing.
+-- `rows::inside::keep_sought` meets its contract: a hint changes nothing of what is kept.
 use Prim.Native.Nat.{ℕ}
 use mathlib.Core.Path.{ap, _∙_}
 use native.Mathlib.Omega.{arith}

@@ -1,4 +1,4 @@
--- `rows::inside::lower` meets its contract. Assumes nothing.
+-- `rows::inside::lower` meets its contract.
 use borrow.Author.Needs.{needs}
 use Rattle.rows.proofs.RowsLaws.{lowered-less, lowered-none}
 use Rattle.rows.proofs.inside.lower.Statement.{statement}

@@ -1,4 +1,4 @@
--- `rows::inside::place` meets its contract. The loop's invariant: what is left to seek comes to what all of it comes to. Assumes nothing.
+-- `rows::inside::place` meets its contract. The loop's invariant: what is left to seek comes to what all of it comes to.
 use Prim.Native.Nat.{_-_, _≤_}
 use mathlib.Core.Path.{sym, _∙_}
 use native.Mathlib.Omega.{arith}

@@ -1,4 +1,4 @@
--- `rows::inside::put` meets its contract: what stood is moved, then the two halves are written. Assumes nothing.
+-- `rows::inside::put` meets its contract: what stood is moved, then the two halves are written.
 use native.Mathlib.Omega.{arith}
 use borrow.Author.Needs.{needs}
 use Rattle.rows.proofs.RowsLaws.{put-halves}
@@ -22,8 +22,12 @@ same-length c = search needs
 
 returns : tie.Need-returns
 returns c =
-    let a = c .before .before .before .before .before .before .before .before .before .before .before .before .before .args in
-    put-halves (a .k) (a .c) (a .out .now) (a .high) (a .low) (omega arith) (omega arith) (c .before .before .before .before .before .before .before .before .before .before .shift .last .0) (c .before .before .before .before .before .before .write .last .0) (c .before .before .write2 .last .0) (c .before .before .before .before .before .before .before .before .before .before .shift .ensures) (c .before .before .before .before .before .before .write .ensures) (c .before .before .write2 .ensures)
+    let second = c .before .before in
+    let first = second .before .before .before .before in
+    let moved = first .before .before .before .before in
+    let a = moved .before .before .before .args in
+    put-halves (a .k) (a .c) (a .out .now) (a .high) (a .low) (omega arith) (omega arith) (moved .shift .last .0) (first .write .last .0) (second .write2 .last .0) (moved .shift .ensures)
+    (first .write .ensures) (second .write2 .ensures)
 
 pub put-spec : {M : Type 1} → statement M
 put-spec =

@@ -1,4 +1,4 @@
--- `rows::inside::put_life` meets its contract. The loop's invariant: the lifetimes from j up to c are moved. Assumes nothing.
+-- `rows::inside::put_life` meets its contract. The loop's invariant: the lifetimes from j up to c are moved.
 use Prim.Native.Nat.{ℕ, suc, _+_, _-_, _≤_}
 use mathlib.Core.List.{List}
 use mathlib.Core.Path.{_≡_, refl, ap, _∙_}

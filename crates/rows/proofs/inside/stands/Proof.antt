@@ -1,4 +1,4 @@
--- `rows::inside::stands` meets its contract: the order of octets is that of the numbers that they write. Assumes nothing.
+-- `rows::inside::stands` meets its contract: the order of octets is that of the numbers that they write.
 use Prim.Native.Nat.{_+_}
 use mathlib.Core.Path.{sym}
 use native.Mathlib.Omega.{arith}

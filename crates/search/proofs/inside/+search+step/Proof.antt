@@ -1,4 +1,4 @@
--- `search::inside::search` and `step` meet their contracts: unused records fall with each step, and the loop's invariant is that what is passed has been searched. Assumes nothing.
+-- `search::inside::search` and `step` meet their contracts: unused records fall with each step, and the loop's invariant is that what is passed has been searched.
 use Prim.Native.Nat.{ℕ, _<_, _≤_, _+_, _-_, _*_, min}
 use mathlib.Core.List.{List}
 use mathlib.Core.Logic.{⊎-elim}
@@ -14,7 +14,7 @@ use Rattle.search.specs.Search.{maxRecords, Records, records, targetOf, 
 use Rattle.rows.specs.Halves.{addressOf}
 use Rattle.rows.proofs.HalvesLaws.{address-length}
 use Rattle.search.proofs.StepLaws.{Taken, without, onward, done-finished, p-node, q-node, target-name, fewer, fit-without, nothing, searched-on, still-long, done-unfinished}
-use Rattle.search.proofs.GoingLaws.{memory-eq, done-as, Going, going-start, going-ready, going-step, going-skip, going-over, going-end, further, same-unused}
+use Rattle.search.proofs.GoingLaws.{memory-eq, done-as, Sought, sought, Going, going-start, going-ready, going-step, going-skip, going-over, going-end, further, same-unused}
 use Rattle.search.proofs.inside.search.Reads as search′
 use Rattle.search.proofs.inside.search.Kinds as search-kinds
 use Rattle.search.proofs.inside.+search+step.Lts-search as search-lts
@@ -87,12 +87,14 @@ step-claims t = (
 )
 
 abbrev search-Inv-loop : search-lts.InvT-loop
-search-Inv-loop owners fields x first bound high low ttl next₀ prev₀ out₀ lives₀ figures₀ left s₀ i₀ next prev out lives figures s i = Going (records owners fields) x bound (addressOf high low) ttl (memory next₀ prev₀ out₀ lives₀ figures₀ s₀) (memory next prev out lives figures s) i
+search-Inv-loop owners fields x first bound high low ttl next₀ prev₀ out₀ lives₀ figures₀ left s₀ i₀ next prev out lives figures s i =
+    Going (sought (records owners fields) x bound (addressOf high low) ttl (memory next₀ prev₀ out₀ lives₀ figures₀ s₀)) (memory next prev out lives figures s) i
 
 abbrev search-μ-loop : search-lts.MeasureT-loop
 search-μ-loop owners fields x first bound high low ttl next₀ prev₀ out₀ lives₀ figures₀ left s₀ i₀ next prev out lives figures s i = length owners - i
 
--- ---- search: what is known at its places, `Begun` where it begins, `Looping` where the loop is tested, `Turn` in a turn of it
+-- ---- search: what is known at its places, `Begun` where it begins, `Looping` where the loop is tested, `Turn` in a turn of it, `Read` where the record's
+-- length is read, `Asking` where the step is called, `Led` where the next record of the list is known
 module _ (t : ℕ) where
   abbrev Begun : Type 0
   Begun = search-lts.Start (search-claims t) (search-at t) search′.Post search-Inv-loop search-μ-loop
@@ -102,6 +104,33 @@ module _ (t : ℕ) where
 
   abbrev Turn : Type 0
   Turn = search-lts.In-loop (search-claims t) (search-at t) search′.Post search-Inv-loop search-μ-loop
+
+  abbrev Read : Type 0
+  Read = search-lts.After-length-in (search-claims t) (search-at t) search′.Post search-Inv-loop search-μ-loop
+
+  abbrev Asking : Type 0
+  Asking = search-lts.After-step-arg5 (search-claims t) (search-at t) search′.Post search-Inv-loop search-μ-loop
+
+  abbrev Led : Type 0
+  Led = search-lts.After-wide (search-claims t) (search-at t) search′.Post search-Inv-loop search-μ-loop
+
+  abbrev entered : Looping → Begun
+  entered c = c .before .before .before .before
+
+  abbrev begun : Turn → Begun
+  begun c = entered (c .before)
+
+  abbrev turn : Read → Turn
+  turn c = c .before .before .before
+
+  abbrev read : Asking → Read
+  read c = c .before .before .before .before .before .before
+
+  abbrev read-before : Led → Read
+  read-before c = c .before .before .before
+
+  abbrev turned : Led → Turn
+  turned c = turn (read-before c)
 
   abbrev table : Begun → Records
   table c = records (c .args .owners .now) (c .args .fields .now)
@@ -116,41 +145,33 @@ module _ (t : ℕ) where
   bits c = addressOf (c .args .high) (c .args .low)
 
   -- what it is asked for, and the laws of its loop in a turn
+  abbrev asked : Begun → Sought
+  asked c = sought (table c) (c .args .x) (c .args .bound) (bits c) (c .args .ttl) (lent c)
+
   fit : (c : Begun) → Fit (table c) (lent c) (c .args .bound)
   fit c = c .pre .1 .0
-
-  abbrev begun : Turn → Begun
-  begun c = c .before .before .before .before .before
 
   place : (c : Turn) → c .before .loop .i < maxRecords
   place c = omega (arith, fit (begun c) .numbered .owned .few, c .loop-test .taken)
 
   same : (c : Turn) → unusedOf (table (begun c)) (here (c .before)) ≡ unusedOf (table (begun c)) (lent (begun c))
-  same c =
-      let s = begun c in
-      let l = c .before .loop in
-      same-unused (table s) (s .args .x) (s .args .bound) (bits s) (s .args .ttl) (lent s) (fit s) (here (c .before)) (l .i) (l .inv) (c .loop-test .taken)
+  same c = same-unused (asked (begun c)) (fit (begun c)) (c .before .loop .inv) (c .loop-test .taken)
 
   onwards : (c : Turn) → c .before .loop .i < getD (c .before .loop .next) (c .before .loop .i) 0
-  onwards c =
-      let s = begun c in
-      let l = c .before .loop in
-      further (table s) (s .args .x) (s .args .bound) (bits s) (s .args .ttl) (lent s) (fit s) (here (c .before)) (l .i) (l .inv) (c .loop-test .taken)
+  onwards c = further (asked (begun c)) (fit (begun c)) (c .before .loop .inv) (c .loop-test .taken)
 
   ready : (c : Turn) → lengthOf (table (begun c)) (c .before .loop .i) ≤ begun c .args .bound → 0 < c .before .loop .s
       → Ready (table (begun c)) (here (c .before)) (begun c .args .bound) (c .before .loop .i)
   ready c n h =
       let s = begun c in
-      let l = c .before .loop in
-      going-ready (table s) (s .args .x) (s .args .bound) (bits s) (s .args .ttl) (lent s) (fit s) (here (c .before)) (l .i) (l .inv) (c .loop-test .taken)
-      (address-length (s .args .high) (s .args .low)) n h
+      going-ready (asked s) (fit s) (c .before .loop .inv) (c .loop-test .taken) (address-length (s .args .high) (s .args .low)) n h
 
   -- ---- and what it owes
   search-loop-holds : search-lts.Need-loop-holds (search-claims t) (search-at t) search′.Post search-Inv-loop search-μ-loop
   search-loop-holds c =
       let s = c .before .before .before in
       let p = s .pre .1 .1 in
-      going-start (table s) (s .args .x) (s .args .bound) (bits s) (s .args .ttl) (lent s) (fit s) (s .args .first) (p .0) (p .1)
+      going-start (asked s) (fit s) (s .args .first) (p .0) (p .1)
 
   search-same-length : search-lts.Need-same-length (search-claims t) (search-at t) search′.Post search-Inv-loop search-μ-loop
   search-same-length c = c .before .before .loop .inv .out
@@ -160,9 +181,8 @@ module _ (t : ℕ) where
 
   search-returns : search-lts.Need-returns (search-claims t) (search-at t) search′.Post search-Inv-loop search-μ-loop
   search-returns c =
-      let s = c .before .before .before .before .before .before in
-      let l = c .before .before .loop in
-      going-over (table s) (s .args .x) (s .args .bound) (bits s) (s .args .ttl) (lent s) (fit s) (here (c .before .before)) (l .i) (l .inv) (c .before .loop-test .taken) (c .if1 .taken)
+      let s = begun (c .before) in
+      going-over (asked s) (fit s) (c .before .before .loop .inv) (c .before .loop-test .taken) (c .if1 .taken)
 
   search-mul-length-in : search-lts.Need-mul-length-in (search-claims t) (search-at t) search′.Post search-Inv-loop search-μ-loop
   search-mul-length-in c = omega (arith, place (c .before))
@@ -174,45 +194,47 @@ module _ (t : ℕ) where
   search-length-in-requires c κs = search needs
 
   search-step-requires : search-lts.Need-step-requires (search-claims t) (search-at t) search′.Post search-Inv-loop search-μ-loop
-  search-step-requires c κs = (
-    omega (arith, c .before .before .before .before .before .before .before .before .before .before .before .before .before .before .pre .0, ap free (same (c .before .before .before .before .before .before .before .before .before))),
-    ready (c .before .before .before .before .before .before .before .before .before) (omega (arith, c .before .before .before .before .before .before .length-in .ensures, c .before .before .before .before .before .if2 .taken)) (omega (arith, c .before .before .before .before .before .before .before .before .if1 .left)),
-  )
+  search-step-requires c κs =
+      let r = read c in
+      let u = turn r in (
+        omega (arith, begun u .pre .0, ap free (same u)),
+        ready u (omega (arith, r .length-in .ensures, c .before .before .before .before .before .if2 .taken)) (omega (arith, r .before .before .if1 .left)),
+      )
 
   search-mul-wide : search-lts.Need-mul-wide (search-claims t) (search-at t) search′.Post search-Inv-loop search-μ-loop
-  search-mul-wide c = omega (arith, place (c .before .before .before .before))
+  search-mul-wide c = omega (arith, place (turn (c .before)))
 
   search-element-copy-out-wide : search-lts.Need-element-copy-out-wide (search-claims t) (search-at t) search′.Post search-Inv-loop search-μ-loop
-  search-element-copy-out-wide c = omega (arith, place (c .before .before .before .before))
+  search-element-copy-out-wide c = omega (arith, place (turn (c .before)))
 
   search-wide-requires : search-lts.Need-wide-requires (search-claims t) (search-at t) search′.Post search-Inv-loop search-μ-loop
   search-wide-requires c κs = search needs
 
   search-loop-less : search-lts.Need-loop-less (search-claims t) (search-at t) search′.Post search-Inv-loop search-μ-loop
   search-loop-less c =
-      let l = c .before .before .before .before .before .before .before .loop in
+      let l = turned c .before .loop in
       let e : c .before .before .if2 .next ≡ l .next = ⊎-elim (λ w. w .11 ∙ w .6 .ensures .next) (λ w. w .1) (c .before .before .if2 .came) in
       let r : c .wide .result ≡ getD (l .next) (l .i) 0 = c .wide .ensures ∙ ap (λ (v : List ℕ). getD v (l .i) 0) e in
-      omega (arith, onwards (c .before .before .before .before .before .before), r, c .before .before .before .before .before .before .loop-test .taken)
+      omega (arith, onwards (turned c), r, turned c .loop-test .taken)
 
   search-loop-again : search-lts.Need-loop-again (search-claims t) (search-at t) search′.Post search-Inv-loop search-μ-loop
   search-loop-again c =
-      let s = c .before .before .before .before .before .before .before .before .before .before .before in
+      let s = begun (turned c) in
       let a = s .args in
-      let h = here (c .before .before .before .before .before .before .before) in
-      let l = c .before .before .before .before .before .before .before .loop in
-      let li = c .before .before .before .before .before .before .loop-test .taken in
+      let h = here (turned c .before) in
+      let l = turned c .before .loop in
+      let li = turned c .loop-test .taken in
       let j = c .before .before .if2 in
       let there = memory (j .next) (j .prev) (j .out) (j .lives) (j .figures) (j .s) in
-      let n : c .before .before .before .length-in .result ≡ lengthOf (table s) (l .i) = c .before .before .before .length-in .ensures in
+      let n : read-before c .length-in .result ≡ lengthOf (table s) (l .i) = read-before c .length-in .ensures in
       ⊎-elim
       (λ w.
-      going-step (table s) (a .x) (a .bound) (bits s) (a .ttl) (lent s) (fit s) h (l .i) (l .inv) li there (c .wide .result) (omega (arith, n, w .0 .taken))
+      going-step (asked s) (fit s) (l .inv) li there (c .wide .result) (omega (arith, n, w .0 .taken))
       (done-as h _ there (stepOf (table s) (l .i) (a .bound) (bits s) (a .ttl) h) (memory-eq (w .11) (w .12) (w .13) (w .14) (w .15) (w .16)) (w .6 .ensures))
       (ap length (w .13) ∙ w .6 .kept .1 .1 .1 .1 .1 .1 .1 .1 .1 .0) (ap length (w .14) ∙ w .6 .kept .1 .1 .1 .1 .1 .1 .1 .1 .1 .1 .0) (c .wide .ensures))
       (λ w.
-      subst (λ (m : Memory). Going (table s) (a .x) (a .bound) (bits s) (a .ttl) (lent s) m (c .wide .result)) (sym (memory-eq (w .1) (w .2) (w .3) (w .4) (w .5) (w .6)))
-      (going-skip (table s) (a .x) (a .bound) (bits s) (a .ttl) (lent s) (fit s) h (l .i) (l .inv) li (c .wide .result) (omega (arith, n, w .0 .left))
+      subst (λ (m : Memory). Going (asked s) m (c .wide .result)) (sym (memory-eq (w .1) (w .2) (w .3) (w .4) (w .5) (w .6)))
+      (going-skip (asked s) (fit s) (l .inv) li (c .wide .result) (omega (arith, n, w .0 .left))
       (c .wide .ensures ∙ ap (λ (v : List ℕ). getD v (l .i) 0) (w .1))))
       (j .came)
 
@@ -224,12 +246,11 @@ module _ (t : ℕ) where
 
   search-returns-2 : search-lts.Need-returns-2 (search-claims t) (search-at t) search′.Post search-Inv-loop search-μ-loop
   search-returns-2 c =
-      let s = c .before .before .before .before .before in
-      let l = c .before .loop in
-      going-end (table s) (s .args .x) (s .args .bound) (bits s) (s .args .ttl) (lent s) (fit s) (here (c .before)) (l .i) (l .inv) (c .loop-test .left)
+      let s = entered (c .before) in
+      going-end (asked s) (fit s) (c .before .loop .inv) (c .loop-test .left)
 
--- ---- step: what is known at its places, `Begun′` where it begins, `Goes-on` where the record is unfinished, `Out` where it is out of its list, `Back`
--- after the search from it
+-- ---- step: what is known at its places, `Begun′` where it begins, `Lengthy` where the record's length is read, `Goes-on` where the record is unfinished,
+-- `Aimed` where its target is read, `Out` where it is out of its list, `Asking′` where the search from it is called, `Back` after that
 module _ (t : ℕ) where
   abbrev Begun′ : Type 0
   Begun′ = step-lts.Start (step-claims t) (step-at t) step.Post
@@ -242,6 +263,51 @@ module _ (t : ℕ) where
 
   abbrev Back : Type 0
   Back = step-lts.Joined2 (step-claims t) (step-at t) step.Post
+
+  abbrev Lengthy : Type 0
+  Lengthy = step-lts.After-length-in (step-claims t) (step-at t) step.Post
+
+  abbrev Aimed : Type 0
+  Aimed = step-lts.After-target-in (step-claims t) (step-at t) step.Post
+
+  abbrev Asking′ : Type 0
+  Asking′ = step-lts.After-search-arg5 (step-claims t) (step-at t) step.Post
+
+  abbrev begun′ : Lengthy → Begun′
+  begun′ c = c .before .before .before .before .before
+
+  abbrev begun-on : Goes-on → Begun′
+  begun-on c = begun′ (c .before)
+
+  abbrev on : Aimed → Goes-on
+  on c = c .before .before .before .before
+
+  abbrev begun-aimed : Aimed → Begun′
+  begun-aimed c = begun-on (on c)
+
+  abbrev aimed-lent : step-lts.After-unlink-arg2 (step-claims t) (step-at t) step.Post → Aimed
+  aimed-lent c = c .before .before .before .before .before .before
+
+  abbrev aimed : Out → Aimed
+  aimed c = aimed-lent (c .before)
+
+  abbrev begun-out : Out → Begun′
+  begun-out c = begun-aimed (aimed c)
+
+  abbrev out : Back → Out
+  out c = c .before .before .before
+
+  abbrev begun-back : Back → Begun′
+  begun-back c = begun-out (out c)
+
+  abbrev out-asking : Asking′ → Out
+  out-asking c = c .before .before .before .before .before .before .before .before
+
+  abbrev begun-asking : Asking′ → Begun′
+  begun-asking c = begun-out (out-asking c)
+
+  abbrev finished : step-lts.After-finish-arg3 (step-claims t) (step-at t) step.Post → Lengthy
+  finished c = c .before .before .before .before
 
   abbrev table′ : Begun′ → Records
   table′ c = records (c .args .owners .now) (c .args .fields .now)
@@ -258,14 +324,8 @@ module _ (t : ℕ) where
   index : (c : Begun′) → c .args .i < maxRecords
   index c = omega (arith, given c .fit .numbered .owned .few, given c .there)
 
-  abbrev begun-on : Goes-on → Begun′
-  begun-on c = c .before .before .before .before .before .before
-
   unfinished : (c : Goes-on) → 0 < lengthOf (table′ (begun-on c)) (begun-on c .args .i)
   unfinished c = omega (arith, c .before .length-in .ensures, c .if1 .left)
-
-  abbrev begun-out : Out → Begun′
-  begun-out c = c .before .before .before .before .before .before .before .before .before .before .before .before .before .before .before .before .before
 
   abbrev taken : (c : Out) → Taken (lent′ (begun-out c)) (begun-out c .args .i)
   taken c = record {
@@ -287,29 +347,31 @@ module _ (t : ℕ) where
   expected c = let s = begun-out c in onward (table′ s) (lent′ s) (s .args .bound) (s .args .i) (bits′ s) (s .args .ttl) (taken c)
 
   -- the node of its target
-  ends : (c : Out) → length (begun-out c .args .owners .now) + c .before .before .before .before .before .before .before .target-in .result < maxNodes
+  ends : (c : Out) → length (begun-out c .args .owners .now) + aimed c .target-in .result < maxNodes
   ends c =
       let o = given (begun-out c) in
-      omega (arith, c .before .before .before .before .before .before .before .target-in .ensures, o .fit .numbered .owned .few, target-name o (unfinished (c .before .before .before .before .before .before .before .before .before .before .before)))
+      omega (arith, aimed c .target-in .ensures, o .fit .numbered .owned .few, target-name o (unfinished (on (aimed c))))
 
   abbrev left-here : Back → Memory
   left-here c = memory (c .if2 .next) (c .if2 .prev) (c .if2 .out) (c .if2 .lives) (c .if2 .figures) (c .if2 .r)
 
   -- it was searched from there on, or there was nothing to search
-  been : (c : Back) → Done (bare (c .before .before .before)) (left-here c) (expected (c .before .before .before))
+  been : (c : Back) → Done (bare (out c)) (left-here c) (expected (out c))
   been c =
-      let s = c .before .before .before .before .before .before .before .before .before .before .before .before .before .before .before .before .before .before .before .before in
+      let s = begun-back c in
       let a = s .args in
-      let k = taken (c .before .before .before) in
-      let x : c .before .before .before .before .before .before .before .before .before .before .target-in .result ≡ targetOf (table′ s) (a .i) = c .before .before .before .before .before .before .before .before .before .before .target-in .ensures in
-      let y : c .before .before .before .before .before .before .before .before .before .before .before .lesser .result ≡ min (a .ttl) (ttlOf (table′ s) (a .i)) = c .before .before .before .before .before .before .before .before .before .before .before .lesser .ensures ∙ ap (min (a .ttl)) (c .before .before .before .before .before .before .before .before .before .before .before .before .ttl-in .ensures) in
-      let z : getD (k .next) (length (a .owners .now) + c .before .before .before .before .before .before .before .before .before .before .target-in .result) 0 ≡ getD (k .next) (length (a .owners .now) + targetOf (table′ s) (a .i)) 0 =
+      let k = taken (out c) in
+      let d = aimed (out c) in
+      let l = d .before in
+      let x : d .target-in .result ≡ targetOf (table′ s) (a .i) = d .target-in .ensures in
+      let y : l .lesser .result ≡ min (a .ttl) (ttlOf (table′ s) (a .i)) = l .lesser .ensures ∙ ap (min (a .ttl)) (l .before .ttl-in .ensures) in
+      let z : getD (k .next) (length (a .owners .now) + d .target-in .result) 0 ≡ getD (k .next) (length (a .owners .now) + targetOf (table′ s) (a .i)) 0 =
       ap (λ (v : ℕ). getD (k .next) (length (a .owners .now) + v) 0) x in
       ⊎-elim
-      (λ w. done-as (bare (c .before .before .before)) _ (left-here c) (expected (c .before .before .before)) (memory-eq (w .11) (w .12) (w .13) (w .14) (w .15) (w .16))
-      (searched-on (given s) k (bits′ s) (a .ttl) _ _ _ _ _ x (c .before .before .before .before .before .before .before .before .before .before .before .before .before .before .before .length-in .ensures) (c .before .before .before .before .before .before .before .before .before .before .before .before .before .joined .ensures) y (w .6 .ensures)))
-      (λ w. done-as (bare (c .before .before .before)) (bare (c .before .before .before)) (left-here c) (expected (c .before .before .before)) (memory-eq (w .1) (w .2) (w .3) (w .4) (w .5) (w .6))
-      (nothing (given s) k (bits′ s) (a .ttl) (unfinished (c .before .before .before .before .before .before .before .before .before .before .before .before .before .before)) (omega (arith, c .before .wide3 .ensures, w .0 .left, z))))
+      (λ w. done-as (bare (out c)) _ (left-here c) (expected (out c)) (memory-eq (w .11) (w .12) (w .13) (w .14) (w .15) (w .16))
+      (searched-on (given s) k (bits′ s) (a .ttl) _ _ _ _ _ x (on d .before .length-in .ensures) (l .before .before .joined .ensures) y (w .6 .ensures)))
+      (λ w. done-as (bare (out c)) (bare (out c)) (left-here c) (expected (out c)) (memory-eq (w .1) (w .2) (w .3) (w .4) (w .5) (w .6))
+      (nothing (given s) k (bits′ s) (a .ttl) (unfinished (on d)) (omega (arith, c .before .wide3 .ensures, w .0 .left, z))))
       (c .if2 .came)
 
   -- ---- and what it owes
@@ -323,7 +385,7 @@ module _ (t : ℕ) where
   step-length-in-requires c κs = search needs
 
   step-joined-requires : step-lts.Need-joined-requires (step-claims t) (step-at t) step.Post
-  step-joined-requires c κs = (index (c .before .before .before .before .before .before), (given (c .before .before .before .before .before .before) .fit .some, given (c .before .before .before .before .before .before) .fit .bounded))
+  step-joined-requires c κs = (index (begun-on c), (given (begun-on c) .fit .some, given (begun-on c) .fit .bounded))
 
   step-ttl-in-requires : step-lts.Need-ttl-in-requires (step-claims t) (step-at t) step.Post
   step-ttl-in-requires c κs = search needs
@@ -332,12 +394,12 @@ module _ (t : ℕ) where
   step-lesser-requires c κs = search needs
 
   step-sub-rest : step-lts.Need-sub-rest (step-claims t) (step-at t) step.Post
-  step-sub-rest c = omega (arith, given (c .before .before .before .before .before) .counts)
+  step-sub-rest c = omega (arith, given (begun′ c) .counts)
 
   step-finish-requires : step-lts.Need-finish-requires (step-claims t) (step-at t) step.Post
   step-finish-requires c κs =
-      let f = given (c .before .before .before .before .before .before .before .before .before) .fit in
-      ((index (c .before .before .before .before .before .before .before .before .before), f .some, f .bounded), (f .places, f .room, f .level, f .ordered))
+      let f = given (begun′ (finished c)) .fit in
+      ((index (begun′ (finished c)), f .some, f .bounded), (f .places, f .room, f .level, f .ordered))
 
   step-same-length : step-lts.Need-same-length (step-claims t) (step-at t) step.Post
   step-same-length c = search needs
@@ -347,34 +409,36 @@ module _ (t : ℕ) where
 
   step-returns : step-lts.Need-returns (step-claims t) (step-at t) step.Post
   step-returns c =
-      let s = c .before .before .before .before .before .before .before .before .before .before .before .before .before .before in
-      let k = c .before .before .before .before .finish .ensures in
-      done-finished (given s) (bits′ s) _ _ _ (s .args .ttl) (sym (c .before .before .before .before .before .before .before .before .before .length-in .ensures) ∙ c .before .before .before .before .before .before .before .before .if1 .taken) (k .0) (k .1) (k .2)
+      let f = c .before .before .before .before in
+      let l = finished (f .before) in
+      let s = begun′ l in
+      let k = f .finish .ensures in
+      done-finished (given s) (bits′ s) _ _ _ (s .args .ttl) (sym (l .length-in .ensures) ∙ f .before .before .before .before .if1 .taken) (k .0) (k .1) (k .2)
 
   step-target-in-requires : step-lts.Need-target-in-requires (step-claims t) (step-at t) step.Post
   step-target-in-requires c κs = search needs
 
   step-mul-wide : step-lts.Need-mul-wide (step-claims t) (step-at t) step.Post
-  step-mul-wide c = omega (arith, index (c .before .before .before .before .before .before .before .before .before .before))
+  step-mul-wide c = omega (arith, index (begun-aimed c))
 
   step-element-copy-out-wide : step-lts.Need-element-copy-out-wide (step-claims t) (step-at t) step.Post
-  step-element-copy-out-wide c = omega (arith, index (c .before .before .before .before .before .before .before .before .before .before))
+  step-element-copy-out-wide c = omega (arith, index (begun-aimed c))
 
   step-wide-requires : step-lts.Need-wide-requires (step-claims t) (step-at t) step.Post
   step-wide-requires c κs = search needs
 
   step-mul-wide-2 : step-lts.Need-mul-wide-2 (step-claims t) (step-at t) step.Post
-  step-mul-wide-2 c = omega (arith, index (c .before .before .before .before .before .before .before .before .before .before .before .before))
+  step-mul-wide-2 c = omega (arith, index (begun-aimed (c .before .before)))
 
   step-element-copy-out-wide-2 : step-lts.Need-element-copy-out-wide-2 (step-claims t) (step-at t) step.Post
-  step-element-copy-out-wide-2 c = omega (arith, index (c .before .before .before .before .before .before .before .before .before .before .before .before))
+  step-element-copy-out-wide-2 c = omega (arith, index (begun-aimed (c .before .before)))
 
   step-wide-requires-2 : step-lts.Need-wide-requires-2 (step-claims t) (step-at t) step.Post
   step-wide-requires-2 c κs = search needs
 
   step-unlink-requires : step-lts.Need-unlink-requires (step-claims t) (step-at t) step.Post
   step-unlink-requires c κs =
-      let o = given (c .before .before .before .before .before .before .before .before .before .before .before .before .before .before .before .before) in (
+      let o = given (begun-aimed (aimed-lent c)) in (
         o .fit .nodes,
         o .fit .linked .level ∙ o .fit .nodes,
         p-node o _ (c .before .before .before .before .wide .ensures),
@@ -395,21 +459,25 @@ module _ (t : ℕ) where
 
   step-search-requires : step-lts.Need-search-requires (step-claims t) (step-at t) step.Post
   step-search-requires c κs =
-      let b = c .before .before .before .before .before .before .before .before .before .before .before .before .before .before .before .before .before .before .before .before .length-in .ensures in
-      let o = given (c .before .before .before .before .before .before .before .before .before .before .before .before .before .before .before .before .before .before .before .before .before .before .before .before .before) in (
-        omega (arith, c .before .before .before .before .before .before .before .before .before .before .before .before .before .before .before .before .before .before .before .before .before .before .before .before .before .pre .0, fewer o (taken (c .before .before .before .before .before .before .before .before))),
+      let d = aimed (out-asking c) in
+      let b = on d .before .length-in .ensures in
+      let o = given (begun-asking c) in
+      let k = taken (out-asking c) in
+      let u = unfinished (on d) in (
+        omega (arith, begun-asking c .pre .0, fewer o k),
         (
-          fit-without o (taken (c .before .before .before .before .before .before .before .before)) _ b (omega (arith, b, unfinished (c .before .before .before .before .before .before .before .before .before .before .before .before .before .before .before .before .before .before .before))),
-          (omega (arith, c .before .before .before .before .before .before .before .before .before .before .before .before .before .before .before .target-in .ensures, target-name o (unfinished (c .before .before .before .before .before .before .before .before .before .before .before .before .before .before .before .before .before .before .before))), c .before .before .before .before .before .before .wide3 .ensures),
+          fit-without o k _ b (omega (arith, b, u)),
+          (omega (arith, d .target-in .ensures, target-name o u), c .before .before .before .before .before .before .wide3 .ensures),
         ),
       )
 
   step-relink-requires : step-lts.Need-relink-requires (step-claims t) (step-at t) step.Post
   step-relink-requires c κs =
-      let s = c .before .before .before .before .before .before .before .before .before .before .before .before .before .before .before .before .before .before .before .before .before .before in
+      let b = c .before .before in
+      let s = begun-back b in
       let o = given s in
-      let k = taken (c .before .before .before .before .before) in
-      let g = still-long o k (bits′ s) (s .args .ttl) (left-here (c .before .before)) (been (c .before .before)) in (
+      let k = taken (out b) in
+      let g = still-long o k (bits′ s) (s .args .ttl) (left-here b) (been b) in (
         g .0,
         g .1,
         p-node o _ (k .p-is),
@@ -425,8 +493,9 @@ module _ (t : ℕ) where
 
   step-returns-2 : step-lts.Need-returns-2 (step-claims t) (step-at t) step.Post
   step-returns-2 c =
-      let s = c .before .before .before .before .before .before .before .before .before .before .before .before .before .before .before .before .before .before .before .before .before .before .before in
-      done-unfinished (given s) (taken (c .before .before .before .before .before .before)) (bits′ s) (s .args .ttl) (left-here (c .before .before .before)) (been (c .before .before .before)) (unfinished (c .before .before .before .before .before .before .before .before .before .before .before .before .before .before .before .before .before))
+      let b = c .before .before .before in
+      let s = begun-back b in
+      done-unfinished (given s) (taken (out b)) (bits′ s) (s .args .ttl) (left-here b) (been b) (unfinished (on (aimed (out b))))
       (c .relink .last .1 .1 .1 .0) (c .relink .last .1 .1 .1 .1 .0) (c .relink .ensures .0) (c .relink .ensures .1)
 
 pub +search+step-spec : {M : Type 1} → statement M

@@ -1,4 +1,4 @@
--- `search::inside::finish` meets its contract: nothing is kept once there was no room, else what the record makes of the address so far. Assumes nothing.
+-- `search::inside::finish` meets its contract: nothing is kept once there was no room, else what the record makes of the address so far.
 use Prim.Native.Nat.{min}
 use mathlib.Core.Path.{sym, ap, _∙_}
 use borrow.Author.Needs.{needs}

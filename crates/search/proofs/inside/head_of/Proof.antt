@@ -1,4 +1,4 @@
--- `search::inside::head_of` meets its contract. Assumes nothing.
+-- `search::inside::head_of` meets its contract.
 use borrow.Author.Needs.{needs}
 use Rattle.search.specs.Search.{headOf}
 use Rattle.search.proofs.inside.head_of.Statement.{statement}

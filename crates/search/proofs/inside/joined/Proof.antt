@@ -1,4 +1,4 @@
--- `search::inside::joined` meets its contract: joining halves is joining addresses. Assumes nothing.
+-- `search::inside::joined` meets its contract: joining halves is joining addresses.
 use Prim.Native.Nat.{_+_, _*_}
 use mathlib.Core.Path.{sym}
 use lib.ListN.{getD}

@@ -1,4 +1,4 @@
--- `search::inside::length_in` meets its contract. Assumes nothing.
+-- `search::inside::length_in` meets its contract.
 use borrow.Author.Needs.{needs}
 use Rattle.search.specs.Search.{lengthIn}
 use Rattle.search.proofs.inside.length_in.Statement.{statement}

@@ -1,4 +1,4 @@
--- `search::inside::mixed` meets its contract. Assumes nothing.
+-- `search::inside::mixed` meets its contract.
 use Prim.Native.Nat.{_^_}
 use native.Mathlib.Nat.{div-mul-le-self}
 use native.Mathlib.Omega.{arith}

@@ -1,4 +1,4 @@
--- `search::inside::target_in` meets its contract. Assumes nothing.
+-- `search::inside::target_in` meets its contract.
 use borrow.Author.Needs.{needs}
 use Rattle.search.specs.Search.{targetIn}
 use Rattle.search.proofs.inside.target_in.Statement.{statement}

@@ -1,4 +1,4 @@
--- `search::inside::ttl_in` meets its contract. Assumes nothing.
+-- `search::inside::ttl_in` meets its contract.
 use borrow.Author.Needs.{needs}
 use Rattle.search.specs.Search.{ttlIn}
 use Rattle.search.proofs.inside.ttl_in.Statement.{statement}

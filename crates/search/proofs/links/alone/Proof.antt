@@ -1,4 +1,4 @@
--- `search::links::alone` meets its contract. The loop's invariant: the places before i have their own numbers. Assumes nothing.
+-- `search::links::alone` meets its contract. The loop's invariant: the places before i have their own numbers.
 use Prim.Native.Nat.{_-_, _≤_}
 use mathlib.Core.Path.{_≡_, _∙_, subst}
 use native.Mathlib.Omega.{arith}

@@ -1,4 +1,4 @@
--- `search::links::link` meets its contract. The loop's invariant: the records before i are in their lists. Assumes nothing.
+-- `search::links::link` meets its contract. The loop's invariant: the records before i are in their lists.
 use Prim.Native.Nat.{ℕ, _+_, _-_, _<_}
 use mathlib.Core.List.{List}
 use mathlib.Core.Path.{_≡_, refl, ap, subst, _∙_}
@@ -17,35 +17,75 @@ Inv-loop owners next₀ prev₀ n i₀ next prev i = (u : List ℕ) × Chained o
 abbrev μ-loop : tie.MeasureT-loop
 μ-loop owners next₀ prev₀ n i₀ next prev i = length owners - i
 
--- the record at hand, and how many nodes there are
-within : (c : tie.In-loop Inv-loop μ-loop) → c .before .loop .i < length (c .before .before .before .before .before .before .before .args .owners .now)
-within c = c .loop-test .taken
+-- ---- its places: where it begins, where the loop is tested, a turn of it, where the owner is read, and where the last of its list is
+abbrev Begun : Type 0
+Begun = tie.Start Inv-loop μ-loop
 
-sizes : (c : tie.In-loop Inv-loop μ-loop)
-    → (length (c .before .loop .next) ≡ maxNodes) × (length (c .before .loop .prev) ≡ maxNodes)
-    × (length (c .before .before .before .before .before .before .before .args .owners .now) + getD (c .before .before .before .before .before .before .before .args .owners .now) (c .before .loop .i) 0 < maxNodes) × (c .before .loop .i < maxRecords)
+abbrev Looping : Type 0
+Looping = tie.At-loop Inv-loop μ-loop
+
+abbrev Turn : Type 0
+Turn = tie.In-loop Inv-loop μ-loop
+
+abbrev Owned : Type 0
+Owned = tie.After-wide Inv-loop μ-loop
+
+abbrev Last : Type 0
+Last = tie.After-wide2 Inv-loop μ-loop
+
+abbrev begun-alone : tie.After-alone2 Inv-loop μ-loop → Begun
+begun-alone c = c .before .before .before .before .before
+
+abbrev begun : Looping → Begun
+begun c = begun-alone (c .before)
+
+abbrev turn-owned : Owned → Turn
+turn-owned c = c .before .before
+
+abbrev turn : Last → Turn
+turn c = turn-owned (c .before .before)
+
+abbrev looping : Last → Looping
+looping c = turn c .before
+
+-- in a turn: the owners, the owner's node, and how many nodes there are
+abbrev owners : Looping → List ℕ
+owners c = begun c .args .owners .now
+
+abbrev node : Looping → ℕ
+node c = length (owners c) + getD (owners c) (c .loop .i) 0
+
+record Sizes (c : Looping) : Type 0 where
+  next : length (c .loop .next) ≡ maxNodes
+  prev : length (c .loop .prev) ≡ maxNodes
+  owner : node c < maxNodes
+  index : c .loop .i < maxRecords
+
+sizes : (c : Turn) → Sizes (c .before)
 sizes c =
     let l = c .before .loop in
-    let p = c .before .before .before .before .before .before .before .pre .0 in
+    let p = begun (c .before) .pre .0 in
     let h = l .inv .1 in
-    let i = within c in
-    (h .sized, h .linked .level ∙ h .sized, omega (arith, p .owner (l .i) i, p .few), omega (arith, p .few, i))
+    let i = c .loop-test .taken in
+    record { next = h .sized; prev = h .linked .level ∙ h .sized; owner = omega (arith, p .owner (l .i) i, p .few); index = omega (arith, p .few, i) }
 
--- the owner's node, and the last of its list
-ends-is : (c : tie.After-wide2 Inv-loop μ-loop)
-    → length (c .before .before .before .before .before .before .before .before .before .before .before .args .owners .now) + c .before .before .wide .result ≡ length (c .before .before .before .before .before .before .before .before .before .before .before .args .owners .now) + getD (c .before .before .before .before .before .before .before .before .before .before .before .args .owners .now) (c .before .before .before .before .before .loop .i) 0
-ends-is c = ap (λ (v : ℕ). length (c .before .before .before .before .before .before .before .before .before .before .before .args .owners .now) + v) (c .before .before .wide .ensures)
+node-fits : (c : Owned) → length (owners (turn-owned c .before)) + c .wide .result < maxNodes
+node-fits c = omega (arith, sizes (turn-owned c) .owner, c .wide .ensures)
 
-last-is : (c : tie.After-wide2 Inv-loop μ-loop)
-    → c .wide2 .result ≡ getD (c .before .before .before .before .before .loop .prev) (length (c .before .before .before .before .before .before .before .before .before .before .before .args .owners .now) + getD (c .before .before .before .before .before .before .before .before .before .before .before .args .owners .now) (c .before .before .before .before .before .loop .i) 0) 0
-last-is c = c .wide2 .ensures ∙ ap (λ (v : ℕ). getD (c .before .before .before .before .before .loop .prev) v 0) (ends-is c)
+-- the owner's node as it is reckoned, and the last of its list
+ends-is : (c : Last) → length (owners (looping c)) + c .before .before .wide .result ≡ node (looping c)
+ends-is c = ap (λ (v : ℕ). length (owners (looping c)) + v) (c .before .before .wide .ensures)
 
-last-within : (c : tie.After-wide2 Inv-loop μ-loop) → c .wide2 .result < maxNodes
+last-is : (c : Last) → c .wide2 .result ≡ getD (looping c .loop .prev) (node (looping c)) 0
+last-is c = c .wide2 .ensures ∙ ap (λ (v : ℕ). getD (looping c .loop .prev) v 0) (ends-is c)
+
+last-within : (c : Last) → c .wide2 .result < maxNodes
 last-within c =
-    let l = c .before .before .before .before .before .loop in
+    let l = looping c .loop in
     let h = l .inv .1 in
-    omega (arith, last-is c, last-node (c .before .before .before .before .before .before .before .before .before .before .before .args .owners .now) (l .inv .0) (l .next) (l .prev) maxNodes (l .i) h (within (c .before .before .before .before)), h .sized)
+    omega (arith, last-is c, last-node (owners (looping c)) (l .inv .0) (l .next) (l .prev) maxNodes (l .i) h (turn c .loop-test .taken), h .sized)
 
+-- ---- and what it owes
 alone-requires : tie.Need-alone-requires Inv-loop μ-loop
 alone-requires c κs = c .before .before .pre .1 .0
 
@@ -54,8 +94,10 @@ alone-requires-2 c κs = c .before .before .before .before .pre .1 .1
 
 loop-holds : tie.Need-loop-holds Inv-loop μ-loop
 loop-holds c =
-    let p = c .before .before .before .before .before .pre in
-    (_, chained-none (c .before .before .before .before .before .args .owners .now) _ _ maxNodes (λ j l. omega (arith, p .0 .owner j l, p .0 .few)) (c .before .before .alone .ensures .0) (c .alone2 .ensures .0) (c .before .before .alone .ensures .1) (c .alone2 .ensures .1))
+    let s = begun-alone c in
+    let p = s .pre in
+    let k = c .before .before .alone .ensures in
+    (_, chained-none (s .args .owners .now) _ _ maxNodes (λ j l. omega (arith, p .0 .owner j l, p .0 .few)) (k .0) (c .alone2 .ensures .0) (k .1) (c .alone2 .ensures .1))
 
 mul-wide : tie.Need-mul-wide Inv-loop μ-loop
 mul-wide c = search needs
@@ -67,46 +109,46 @@ wide-requires : tie.Need-wide-requires Inv-loop μ-loop
 wide-requires c κs = search needs
 
 add-ends : tie.Need-add-ends Inv-loop μ-loop
-add-ends c = let f = sizes (c .before .before) in omega (arith, f .0, f .1, f .2, f .3, c .wide .ensures)
+add-ends c = omega (arith, node-fits c)
 
 mul-last : tie.Need-mul-last Inv-loop μ-loop
-mul-last c = let f = sizes (c .before .before) in omega (arith, f .0, f .1, f .2, f .3, c .wide .ensures)
+mul-last c = omega (arith, node-fits c)
 
 element-copy-out-last : tie.Need-element-copy-out-last Inv-loop μ-loop
-element-copy-out-last c = let f = sizes (c .before .before) in omega (arith, f .0, f .1, f .2, f .3, c .wide .ensures)
+element-copy-out-last c = omega (arith, node-fits c, sizes (turn-owned c) .prev)
 
 wide-requires-2 : tie.Need-wide-requires-2 Inv-loop μ-loop
 wide-requires-2 c κs = search needs
 
 cast-node : tie.Need-cast-node Inv-loop μ-loop
-cast-node c = let f = sizes (c .before .before .before .before) in omega (arith, f .3)
+cast-node c = omega (arith, sizes (turn c) .index)
 
 mul-next : tie.Need-mul-next Inv-loop μ-loop
-mul-next c = let f = sizes (c .before .before .before .before) in omega (arith, f .0, last-within c)
+mul-next c = omega (arith, last-within c)
 
 element-write-next : tie.Need-element-write-next Inv-loop μ-loop
-element-write-next c = let f = sizes (c .before .before .before .before) in omega (arith, f .0, last-within c)
+element-write-next c = omega (arith, sizes (turn c) .next, last-within c)
 
 cast-next : tie.Need-cast-next Inv-loop μ-loop
-cast-next c = let f = sizes (c .before .before .before .before) in omega (arith, f .2, c .before .before .wide .ensures)
+cast-next c = omega (arith, node-fits (c .before .before))
 
 mul-next-2 : tie.Need-mul-next-2 Inv-loop μ-loop
-mul-next-2 c = let f = sizes (c .before .before .before .before) in omega (arith, f .0, f .3)
+mul-next-2 c = omega (arith, sizes (turn c) .index)
 
 element-write-next-2 : tie.Need-element-write-next-2 Inv-loop μ-loop
-element-write-next-2 c = let f = sizes (c .before .before .before .before) in omega (arith, f .0, f .3)
+element-write-next-2 c = omega (arith, sizes (turn c) .next, sizes (turn c) .index)
 
 mul-prev : tie.Need-mul-prev Inv-loop μ-loop
-mul-prev c = let f = sizes (c .before .before .before .before) in omega (arith, f .1, f .2, c .before .before .wide .ensures)
+mul-prev c = omega (arith, node-fits (c .before .before))
 
 element-write-prev : tie.Need-element-write-prev Inv-loop μ-loop
-element-write-prev c = let f = sizes (c .before .before .before .before) in omega (arith, f .1, f .2, c .before .before .wide .ensures)
+element-write-prev c = omega (arith, sizes (turn c) .prev, node-fits (c .before .before))
 
 mul-prev-2 : tie.Need-mul-prev-2 Inv-loop μ-loop
-mul-prev-2 c = let f = sizes (c .before .before .before .before) in omega (arith, f .1, f .3)
+mul-prev-2 c = omega (arith, sizes (turn c) .index)
 
 element-write-prev-2 : tie.Need-element-write-prev-2 Inv-loop μ-loop
-element-write-prev-2 c = let f = sizes (c .before .before .before .before) in omega (arith, f .1, f .3)
+element-write-prev-2 c = omega (arith, sizes (turn c) .prev, sizes (turn c) .index)
 
 add-i : tie.Need-add-i Inv-loop μ-loop
 add-i c = search needs
@@ -116,18 +158,22 @@ loop-less c = search needs
 
 loop-again : tie.Need-loop-again Inv-loop μ-loop
 loop-again c =
-    let l = c .before .before .before .before .before .loop in
-    let owners = c .before .before .before .before .before .before .before .before .before .before .before .args .owners .now in
-    let k = length owners + c .before .before .wide .result in
-    (_, chained-as owners (l .inv .0) (l .next) (l .prev) maxNodes (l .i) (l .inv .1) (within (c .before .before .before .before)) (c .wide2 .result) k k (getD (l .prev) k 0) (last-is c) (ends-is c) refl (ap (λ (v : ℕ). getD (l .prev) v 0) (ends-is c)))
+    let l = looping c .loop in
+    let o = owners (looping c) in
+    let k = length o + c .before .before .wide .result in (
+      _,
+      chained-as o (l .inv .0) (l .next) (l .prev) maxNodes (l .i) (l .inv .1) (turn c .loop-test .taken) (c .wide2 .result) k k (getD (l .prev) k 0) (last-is c) (ends-is c) refl
+          (ap (λ (v : ℕ). getD (l .prev) v 0) (ends-is c)),
+    )
 
 returns : tie.Need-returns Inv-loop μ-loop
 returns c =
     let l = c .before .loop in
-    let owners = c .before .before .before .before .before .before .before .args .owners .now in
+    let o = owners (c .before) in
     let h = l .inv .1 in
-    let e : l .i ≡ length owners = omega (arith, h .upto, c .loop-test .left) in
-    record { linked = subst (λ (u : List ℕ). Linked owners u (l .next) (l .prev)) (chained-all owners (l .inv .0) (l .next) (l .prev) maxNodes (l .i) h e) (h .linked); nodes = h .sized }
+    let e : l .i ≡ length o = omega (arith, h .upto, c .loop-test .left) in
+    let k = chained-all o (l .inv .0) (l .next) (l .prev) maxNodes (l .i) h e in
+    record { linked = subst (λ (u : List ℕ). Linked o u (l .next) (l .prev)) k (h .linked); nodes = h .sized }
 
 pub link-spec : {M : Type 1} → statement M
 link-spec =

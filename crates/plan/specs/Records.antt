@@ -1,0 +1,8 @@
+-- The type of a record by its index: the code's own, nothing that a reader must believe.
+use Prim.Native.Nat.{ℕ}
+use mathlib.Core.List.{List}
+use Rattle.plan.specs.Layout.{typeOf, recordAt}
+
+-- the type of the record at an index
+abbrev pub typeAt : List ℕ → ℕ → ℕ
+typeAt t i = typeOf (recordAt t i)
