@@ -4,13 +4,14 @@
 //! that changed them, called by their numbers: T-01 brought TTLs. Three answers stand side by side: `ffi` calls the
 //! library; `reference` is an independent Rust version written for speed, which `bench` measures the library against;
 //! `plain` spells the rules out slowly (lists of units, one bit at a time) and judges the reference. `soak` makes random
-//! calls of all functions.
+//! calls of all functions. `pages` makes the pages of docs/reference from the tree.
 
 pub mod bench;
 pub mod ffi;
 pub mod generate;
 pub mod lent;
 pub mod met;
+pub mod pages;
 pub mod plain;
 pub mod reference;
 pub mod soak;

@@ -1,4 +1,4 @@
-//! Names as people write them.
+//! Names and numbers as people write them.
 
 use crate::generate::names::Name;
 
@@ -50,4 +50,12 @@ fn bit_label(name: &mut Name, text: &str) {
         octets[at / 2] |= (digit.to_digit(16).expect("a digit") as u8) << (4 - at % 2 * 4);
     }
     name.bits(count, &octets);
+}
+
+/// A number with a comma before its last three digits.
+pub fn grouped(number: usize) -> String {
+    if number < 1_000 {
+        return number.to_string();
+    }
+    format!("{},{:03}", number / 1_000, number % 1_000)
 }

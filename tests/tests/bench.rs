@@ -26,6 +26,7 @@ fn the_table_has_a_row_for_every_figure() {
         "A6 read, usual data",
         "A6 write, usual values",
         "stack of a lookup, a chain of 1,024 records",
+        "stack of a reverse lookup, 255 rewrites",
         "`rt ci` from nothing",
     ] {
         assert!(table.contains(&format!("\n| {figure} |")), "{figure}");

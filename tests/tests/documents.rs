@@ -1,137 +1,190 @@
-//! What the documents say of the tree is so: the files that have to be believed are all there and all of them, every
-//! wrong answer that is tried is listed, and every public function has its line in demand 1.
+//! What the documents say of the tree is so: the pages of docs/reference are those that the tree gives, every public
+//! function has its line in demand 1, every wrong answer that is tried says what it is, and what is named is there.
 
-use a6plan_tests::tree::{repository, text_of};
-use std::collections::BTreeSet;
+use a6plan_tests::pages::{self, definitions, functions, source, wrong_answers};
+use a6plan_tests::tree::{crates, edges, names_in, repository, text_of};
+use std::collections::{BTreeMap, BTreeSet};
 use std::fs;
 
-/// The names of a folder's files that end so, without the ending.
-fn names_in(folder: &str, ending: &str) -> Vec<String> {
-    let Ok(entries) = fs::read_dir(repository().join(folder)) else { return Vec::new() };
-    let names = entries.map(|entry| entry.expect("an entry").file_name().into_string().expect("a name"));
-    names.filter_map(|name| name.strip_suffix(ending).map(str::to_owned)).collect()
-}
-
-fn crates() -> Vec<String> {
-    let list = text_of("crates.txt");
-    let lines = list.lines().filter(|line| !line.starts_with('#'));
-    lines.map(|line| line.split_once(':').expect("NAME: ..").0.to_owned()).collect()
-}
-
-/// Whether a file's line begins an import, and the imports of the file as one text each.
-fn imports(text: &str) -> Vec<String> {
-    let text = text.replace("ghost use ", "use ");
-    let parts = text.split("\nuse ").skip(1).map(|part| part.split('}').next().expect("a part").to_owned());
-    parts.collect()
-}
-
-/// The lines of a file that are neither comments nor imports nor empty.
-fn lines_of(text: &str) -> usize {
-    let mut importing = false;
-    let mut count = 0;
-    for line in text.lines().map(str::trim) {
-        if importing || line.starts_with("use ") {
-            importing = !line.contains('}') && (importing || line.contains('{'));
-        } else if !line.is_empty() && !line.starts_with("--") {
-            count += 1;
-        }
+#[test]
+fn the_reference_pages_are_those_of_the_tree() {
+    for page in pages::all() {
+        let file = format!("{}/{}", pages::FOLDER, page.file);
+        let there = fs::read_to_string(repository().join(&file)).unwrap_or_default();
+        let differs = there.lines().zip(page.text.lines()).position(|(old, new)| old != new);
+        let line = differs.unwrap_or(there.lines().count().min(page.text.lines().count())) + 1;
+        assert!(
+            there == page.text,
+            "{file} is not what the tree gives, from line {line} on; write it anew: {}",
+            pages::COMMAND
+        );
     }
-    count
+    let files: BTreeSet<String> = names_in(pages::FOLDER, ".md").into_iter().map(|name| format!("{name}.md")).collect();
+    assert_eq!(files, pages::all().iter().map(|page| page.file.to_owned()).collect());
 }
 
-/// The files of READING's table, with the lines that it says they have.
-fn believed() -> Vec<(String, usize)> {
+/// A definition that READING leads to is one of those that have to be believed.
+#[test]
+fn reading_leads_to_what_has_to_be_believed() {
+    let believed = definitions::believed();
     let page = text_of("docs/READING.md");
-    let rows = page.lines().filter(|row| row.starts_with("| `crates/") && row.split('|').count() == 6);
-    let cells = rows.map(|row| row.split('|').map(str::trim).collect::<Vec<_>>());
-    let files = cells.filter_map(|cell| Some((cell[1].trim_matches('`').to_owned(), cell[2].parse().ok()?)));
-    files.collect()
-}
-
-#[test]
-fn the_table_of_what_to_believe_is_right() {
-    let files = believed();
-    let mut lines = 0;
-    for (file, said) in &files {
-        assert_eq!(lines_of(&text_of(file)), *said, "the lines of {file}");
-        lines += said;
+    for file in ticked(&page).into_iter().filter(|file| file.contains("/specs/")) {
+        assert!(believed.contains(&file), "{file} is not among what has to be believed");
     }
-    let all = crates().iter().map(|name| format!("crates/{name}/specs")).fold(0, |sum, folder| {
-        let specs = names_in(&folder, ".antt");
-        sum + specs.iter().map(|name| lines_of(&text_of(&format!("{folder}/{name}.antt")))).sum::<usize>()
-    });
-    let said = format!("These {} files hold every definition that an answer is measured by: {lines} lines, without comments and imports, of {all} in all `specs/` folders.", files.len());
-    assert!(text_of("docs/READING.md").contains(&said), "{said}");
-}
-
-/// A definition that has to be believed is made of such definitions alone; what is declared in code stands in the code.
-#[test]
-fn nothing_to_believe_is_left_out() {
-    let files: BTreeSet<String> = believed().into_iter().map(|(file, _)| file).collect();
-    for file in &files {
-        for import in imports(&text_of(file)) {
-            let Some(path) = import.strip_prefix("Rattle·") else { continue };
-            let (name, rest) = path.split_once(['·', '.']).expect("a crate");
-            let module = rest.trim_start_matches("specs.").split(['.', ' ']).next().expect("a module");
-            let from = format!("crates/{name}/specs/{module}.antt");
-            assert!(module == "declared" || files.contains(&from), "{file} needs {from}");
+    for row in rows_after(&page, "| Definition | File | Says | 01 |") {
+        let texts: String = ticked(&row[1]).iter().map(|file| text_of(file)).collect();
+        for name in ticked(&row[0]) {
+            assert!(
+                source::items(&texts).iter().any(|item| item.public && item.name == name),
+                "{name} is not in {}",
+                row[1]
+            );
         }
     }
 }
 
+/// READING is read in five minutes.
+#[test]
+fn reading_is_one_page() {
+    let lines = text_of("docs/READING.md").lines().count();
+    assert!(lines <= 90, "docs/READING.md has {lines} lines");
+}
+
+/// The edits that the page lists, by crate and name, are those that there are.
 #[test]
 fn every_wrong_answer_is_listed() {
-    let page = text_of("docs/READING.md");
-    for name in crates() {
-        for edit in names_in(&format!("crates/{name}/must-fail"), ".edit") {
-            let listed = [format!("`{edit}`"), format!("`{name}/must-fail/{edit}`")];
-            assert!(listed.iter().any(|label| page.contains(label)), "{name}/must-fail/{edit} is not in READING.md");
-        }
+    let page = text_of("docs/reference/wrong-answers.md");
+    let mut listed = Vec::new();
+    for section in page.split("\n## ").skip(1) {
+        let (of, rows) = section.split_once("\n\n").expect("a table");
+        let rows = rows.lines().filter(|row| row.starts_with("| `"));
+        listed.extend(rows.map(|row| format!("{of}/{}", row.split('`').nth(1).expect("a name"))));
     }
+    let edits = crates().into_iter().flat_map(|of| {
+        names_in(&format!("crates/{of}/must-fail"), ".edit").into_iter().map(move |name| format!("{of}/{name}"))
+    });
+    assert_eq!(listed, edits.collect::<Vec<_>>());
+}
+
+/// An edit has a line `wrong: ..`, the wrong answer in words, and a line `refused: ..`, what refuses it.
+#[test]
+fn every_edit_says_what_it_is() {
+    let silent = wrong_answers::edits().into_iter().filter(|edit| edit.wrong.is_empty() || edit.refused.is_empty());
+    let silent: Vec<String> = silent.map(|edit| format!("{}/{}", edit.of, edit.name)).collect();
+    assert!(silent.is_empty(), "{} edits do not say what they are: {silent:?}", silent.len());
+}
+
+#[test]
+fn every_edit_has_a_name_of_its_own() {
+    let mut of: BTreeMap<String, Vec<String>> = BTreeMap::new();
+    for edit in wrong_answers::edits() {
+        of.entry(edit.name).or_default().push(edit.of);
+    }
+    of.retain(|_, crates| crates.len() > 1);
+    assert!(of.is_empty(), "the same name in more than one crate: {of:?}");
+}
+
+/// The names in backticks of a text.
+fn ticked(text: &str) -> Vec<String> {
+    text.split('`').skip(1).step_by(2).map(str::to_owned).collect()
+}
+
+/// The rows of a table in a page, as their cells, from the row after its head on.
+fn rows_after(page: &str, head: &str) -> Vec<Vec<String>> {
+    let (_, rest) = page.split_once(&format!("\n{head}\n")).unwrap_or_else(|| panic!("no table {head}"));
+    let rows = rest.lines().skip(1).take_while(|line| line.starts_with('|'));
+    rows.map(|row| row.trim_matches('|').split('|').map(|cell| cell.trim().to_owned()).collect()).collect()
 }
 
 #[test]
 fn every_file_that_is_named_is_there() {
-    let pages = ["README.md", "docs/READING.md", "docs/DECISIONS.md", "docs/FORMATS.md", "docs/PERFORMANCE.md"];
-    let changes = names_in("docs/changes", ".md").into_iter().map(|name| format!("docs/changes/{name}.md"));
-    for document in &pages.into_iter().map(str::to_owned).chain(changes).collect::<Vec<_>>() {
-        for named in text_of(document).split('`').skip(1).step_by(2) {
-            let is_path = named.starts_with("crates/") && !named.contains(['*', ' ', '<']);
-            assert!(!is_path || repository().join(named).exists(), "{document} names {named}");
+    let roots = ["README.md", "CHANGELOG.md"].map(str::to_owned);
+    let folders = ["docs", "docs/changes", "docs/reference"];
+    let pages = folders
+        .iter()
+        .flat_map(|folder| names_in(folder, ".md").into_iter().map(move |name| format!("{folder}/{name}.md")));
+    for document in roots.into_iter().chain(pages) {
+        let text = text_of(&document);
+        for named in ticked(&text) {
+            let is_path =
+                ["crates/", "docs/", "tests/", "examples/", "include/"].iter().any(|folder| named.starts_with(folder));
+            // Not a pattern, a command, or a name to be chosen.
+            let is_file = is_path && !named.contains(['*', ' ', '<']) && !named.contains("/NAME/");
+            assert!(!is_file || repository().join(&named).exists(), "{document} names {named}");
         }
-        if document == "README.md" {
-            for name in crates() {
-                assert!(text_of(document).contains(&format!("\n| `{name}` | ")), "{document} leaves out {name}");
-            }
+        let folder = repository().join(&document).parent().expect("a folder").to_owned();
+        for link in text.split("](").skip(1).map(|rest| rest.split(')').next().expect("a link")) {
+            let file = link.split('#').next().expect("a file");
+            assert!(file.contains("://") || folder.join(file).exists(), "{document} links to {link}");
         }
     }
 }
 
-/// The public functions of a file: those that begin a line.
-fn public_functions(text: &str) -> Vec<(String, bool)> {
-    let parts = text.split("\npub fn ").chain(text.split("\npub extern \"C\" fn ")).filter(|part| !part.starts_with("//"));
-    let heads = parts.map(|part| part.split("\n{").next().expect("a head"));
-    heads.filter_map(|head| Some((head.split_once('(')?.0.to_owned(), head.contains("\n    requires ")))).collect()
+/// ARCHITECTURE has every crate with what crates.txt says that it stands on, and no crate stands on its own layer or on
+/// one above.
+#[test]
+fn the_architecture_is_that_of_the_crates() {
+    let page = text_of("docs/ARCHITECTURE.md");
+    let shown = rows_after(&page, "| Crate | Subject | Stands on |");
+    let shown: Vec<(String, Vec<String>)> =
+        shown.iter().map(|row| (ticked(&row[0]).remove(0), ticked(&row[2]))).collect();
+    assert_eq!(shown, edges());
+    let mut layers: BTreeMap<String, usize> = BTreeMap::new();
+    for row in rows_after(&page, "| Layer | Crates | What belongs there |") {
+        let layer = row[0].parse().expect("the number of a layer");
+        layers.extend(ticked(&row[1]).into_iter().map(|name| (name, layer)));
+    }
+    for (name, below) in edges() {
+        // The kit's own crates have no layer here.
+        for lower in below.iter().filter(|lower| !["io", "libc"].contains(&lower.as_str())) {
+            assert!(layers[lower] < layers[&name], "{name} stands on {lower}, which is no layer below");
+        }
+    }
+    assert_eq!(layers.into_keys().collect::<BTreeSet<_>>(), crates().into_iter().collect());
 }
 
+/// The header's version is the newest one of the changelog, as text and by its parts.
+#[test]
+fn the_version_is_that_of_the_changelog() {
+    let (header, changelog) = (text_of("include/a6plan.h"), text_of("CHANGELOG.md"));
+    let mut versions = changelog.lines().filter_map(|line| Some(line.strip_prefix("## [")?.split_once(']')?.0));
+    let newest = versions.find(|version| *version != "Unreleased").expect("a version");
+    assert!(header.contains(&format!("#define A6PLAN_VERSION \"{newest}\"\n")), "{newest}");
+    for (part, number) in ["MAJOR", "MINOR", "PATCH"].iter().zip(newest.split('.')) {
+        assert!(header.contains(&format!("#define A6PLAN_VERSION_{part} {number}\n")), "{part} of {newest}");
+    }
+}
+
+/// Outside modules `inside`, a public function asks nothing of its caller and has a theorem in demand 1; and demand 1 has
+/// no other function.
 #[test]
 fn every_public_function_promises_its_definition() {
-    let demand = text_of("crates/demands/proofs/Demand1.antt");
-    let mut functions = 0;
+    let mut functions = BTreeSet::new();
     for name in crates() {
-        for module in ["", "zeros"] {
-            let file = if module.is_empty() { "lib" } else { module };
-            let Ok(text) = fs::read_to_string(repository().join(format!("crates/{name}/src/{file}.rt"))) else { continue };
-            for (function, asks) in public_functions(&text) {
-                let path = if module.is_empty() { function.clone() } else { format!("{module}.{function}") };
-                assert!(!asks, "{name}::{path} asks something of its caller");
-                let import = format!("\nuse Rattle.{name}.proofs.{path}.Reads as ");
-                let alias = demand.split_once(&import).unwrap_or_else(|| panic!("{name}::{path} is not in demand 1")).1;
-                let alias = alias.lines().next().expect("a name");
-                assert!(demand.contains(&format!("Promises ({alias}.Asked ")), "{name}::{path} has no line in demand 1");
-                functions += 1;
-            }
+        for function in source::public_functions(&name) {
+            let path = format!("{name}::{}", function.path("::"));
+            assert!(!function.asks(), "{path} asks something of its caller");
+            assert!(!function.contract.is_empty(), "{path} promises nothing");
+            functions.insert(path);
         }
     }
-    assert_eq!(functions, 28);
+    let promised: BTreeSet<String> = functions::promises().into_iter().map(|(function, _)| function).collect();
+    assert_eq!(functions, promised, "public functions, and those of demand 1");
+    assert!(!functions.is_empty());
+}
+
+/// A decision has a date and a title, and is short.
+#[test]
+fn every_decision_is_short() {
+    let page = text_of("docs/DECISIONS.md");
+    let mut titles = BTreeSet::new();
+    for entry in page.split("\n\n").filter(|block| block.starts_with("**")) {
+        let (title, text) = entry[2..].split_once(".** ").unwrap_or_else(|| panic!("**DATE. Title.** ..: {entry}"));
+        let (date, title) = title.split_once(". ").unwrap_or_else(|| panic!("no date: {title}"));
+        assert!(date.len() == 10 && date.starts_with("20"), "{date} is no date");
+        assert!(titles.insert(title), "{title} stands twice");
+        let words = title.split_whitespace().count() + text.split_whitespace().count();
+        assert!(words < 120, "{title} has {words} words");
+    }
+    assert!(!titles.is_empty());
 }

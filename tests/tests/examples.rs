@@ -2,6 +2,7 @@
 //! says, and print what it says.
 
 use a6plan_tests::tree::{repository, text_of};
+use std::fs;
 use std::path::{Path, PathBuf};
 use std::process::{Command, Output};
 
@@ -42,17 +43,65 @@ fn compiled(example: &str) -> PathBuf {
 /// What both lookups print: the address and its TTL.
 const LOOKUP: &str = "2001:db8:0:5::7 300\n";
 
+/// What a lookup that README builds makes of a plan of these records: its exit status, and what it prints and says.
+fn looked_up(program: &str, slot: &[u8], records: &[u8]) -> (Option<i32>, String, String) {
+    let file = Path::new(env!("CARGO_TARGET_TMPDIR")).join(program.replace('/', "-"));
+    fs::write(&file, [slot, records].concat()).expect("the input is written");
+    let input = fs::File::open(&file).expect("the input");
+    let output = Command::new(repository().join(program)).stdin(input).output().expect("the program runs");
+    let text = |octets| String::from_utf8(octets).expect("text");
+    (output.status.code(), text(output.stdout), text(output.stderr))
+}
+
+/// A lookup takes 1,024 records and no more, and refuses in words.
+fn assert_whole(program: &str) {
+    let sample = fs::read(repository().join("crates/lookup/stdin")).expect("the sample plan");
+    let (slot, records) = sample.split_at(256);
+    // The host's record, and the carrier's again and again.
+    let (host, carrier) = records.split_at(536);
+    let table: Vec<u8> = host.iter().chain(carrier.iter().cycle().take(1_025 * 536)).copied().collect();
+    let refused = |number, words: &str| (Some(number), String::new(), format!("refused {number}: {words}\n"));
+    assert_eq!(looked_up(program, slot, &table[..1_024 * 536]), (Some(0), LOOKUP.into(), String::new()));
+    for octets in [1_024 * 536 + 1, 1_025 * 536, 1_026 * 536, 1_024 * 536 - 1] {
+        let words = "the table is no whole number of records of 536 octets, or has more than 1,024";
+        assert_eq!(looked_up(program, slot, &table[..octets]), refused(1, words), "{octets} octets");
+    }
+    let words = "the name is malformed, or cut short: its slot has 256 octets";
+    assert_eq!(looked_up(program, &slot[1..], &[]), refused(4, words));
+    let mut long = host.to_vec();
+    long[1] = 200;
+    let words = "a record is out of order: a type, prefix length, bit, name or TTL is not as it must be";
+    assert_eq!(looked_up(program, slot, &long), refused(2, words));
+}
+
+/// Input that cannot be read and output that cannot be written are told apart from refusals.
+fn assert_fails_plainly(program: &str) {
+    let open = |path| fs::OpenOptions::new().read(true).open(path).expect("it is opened");
+    let full = || fs::OpenOptions::new().write(true).open("/dev/full").expect("it is opened");
+    let sample = repository().join("crates/lookup/stdin");
+    let read = Command::new(repository().join(program)).stdin(open(repository())).output().expect("the program runs");
+    let write = Command::new(repository().join(program)).stdin(open(sample)).stdout(full()).output();
+    for output in [read, write.expect("the program runs")] {
+        assert_eq!(output.status.code(), Some(101));
+        assert!(!output.stderr.is_empty(), "{program} says what failed");
+    }
+}
+
 #[test]
 fn a_lookup_from_c() {
     assert_shown("c", "examples/lookup.c");
     compiled("lookup");
     assert_eq!(printed_as_readme_says("target/lookup-c"), LOOKUP);
+    assert_whole("target/lookup-c");
+    assert_fails_plainly("target/lookup-c");
 }
 
 #[test]
 fn a_lookup_from_rust() {
     assert_shown("rust", "examples/lookup.rs");
     assert_eq!(printed_as_readme_says("target/lookup-rs"), LOOKUP);
+    assert_whole("target/lookup-rs");
+    assert_fails_plainly("target/lookup-rs");
 }
 
 #[test]

@@ -138,7 +138,7 @@ fn figures(row: &Row, measured: &Measured) -> Option<Figures> {
             let of = of(subjects)?;
             Some([0, 1].map(|side| of[0][side] / of[1][side]))
         }
-        Kind::Stack(records) => Some(stack::least(*records)),
+        Kind::Stack(call) => Some(stack::least(*call)),
     }
 }
 

@@ -1,11 +1,13 @@
 //! The rows of the table: what is measured, and the bound that the design sets.
 
 use super::measure::{Side, Work};
+use super::stack::Deep;
 use crate::generate::forward::{among, one_name, two_each, Tangle};
 use crate::generate::names::{merging, mixed, standards, Name};
 use crate::generate::plan::{a6_record, name, realistic, worst, MOST, RECORD};
 use crate::generate::{a6, examples, Random};
 use crate::reference::a6::VALUE;
+use crate::text::grouped;
 use crate::{ffi, reference};
 use std::cell::RefCell;
 use std::hint::black_box;
@@ -24,8 +26,8 @@ pub enum Kind {
     Spread([String; 3]),
     /// One row's time over another's; the bound is on the library's.
     Over([String; 2]),
-    /// The stack for a chain of so many records, in KiB; the bound is on the library's.
-    Stack(usize),
+    /// The stack of a deep call, in KiB; the bound is on the library's.
+    Stack(Deep),
 }
 
 /// The bounds on the library's time over the reference's.
@@ -55,14 +57,6 @@ fn keep<T>(value: T) -> &'static T {
     Box::leak(Box::new(value))
 }
 
-/// A number with a comma before its last three digits.
-fn grouped(number: usize) -> String {
-    if number < 1_000 {
-        return number.to_string();
-    }
-    format!("{},{:03}", number / 1_000, number % 1_000)
-}
-
 /// All rows, in the order of the table.
 pub fn all() -> Vec<Row> {
     let mut rows = Rows(Vec::new());
@@ -73,8 +67,9 @@ pub fn all() -> Vec<Row> {
     rows.data();
     for records in GROWING {
         let subject = format!("stack of a lookup, a chain of {} records", grouped(records));
-        rows.add(subject, STACK, Kind::Stack(records));
+        rows.add(subject, STACK, Kind::Stack(Deep::Chain(records)));
     }
+    rows.add("stack of a reverse lookup, 255 rewrites", STACK, Kind::Stack(Deep::Walk(255)));
     rows.names();
     rows.0
 }
