@@ -8,16 +8,36 @@ extern "C" {
         figures: *mut u32, figures_length: usize) -> u32;
 }
 
+const REFUSALS: [&str; 8] = [
+    "",
+    "the table is no whole number of records of 536 octets, or has more than 1,024",
+    "a record is out of order: a type, prefix length, bit, name or TTL is not as it must be",
+    "two DNAMEs have the same owner",
+    "the name is malformed, or cut short: its slot has 256 octets",
+    "the output, the TTLs or the figures have another length than is asked",
+    "the name has more chains than the limit, 10,000",
+    "the name has more addresses than there is room for, 64",
+];
+
+fn refused(number: u32) -> ! {
+    eprintln!("refused {number}: {}", REFUSALS[number as usize]);
+    exit(number as i32)
+}
+
 fn main() {
     let (mut input, mut out, mut ttls, mut figures) = (Vec::new(), [0; 64 * 16], [0; 64], [0; 2]);
-    std::io::stdin().read_to_end(&mut input).expect("the input is read");
-    let Some((slot, plan)) = input.split_at_checked(256) else { exit(4) };
+    // One octet more than a full table: a longer one is seen to be longer, and refused.
+    let most = 256 + 1024 * 536 + 1;
+    std::io::stdin().take(most).read_to_end(&mut input).expect("standard input is read");
+    let Some((slot, plan)) = input.split_at_checked(256) else { refused(4) };
     let name = &slot[1..][..slot[0] as usize];
     // Each pointer goes with the length of its slice.
     let number = unsafe { a6plan_lookup(plan.as_ptr(), plan.len(), name.as_ptr(), name.len(), 10_000,
         out.as_mut_ptr(), out.len(), ttls.as_mut_ptr(), ttls.len(), figures.as_mut_ptr(), figures.len()) };
+    if number != 0 {
+        refused(number);
+    }
     for (address, ttl) in out.as_chunks::<16>().0.iter().zip(ttls).take(figures[0] as usize) {
         println!("{} {ttl}", Ipv6Addr::from(*address));
     }
-    exit(number as i32);
 }

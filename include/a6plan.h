@@ -1,18 +1,28 @@
 /*
  * The A6 plan library's C interface.
  *
- * A slice is a pointer and a length in elements. No call asks anything of its caller beyond pointers to as many
- * elements as it says, with memory that is written apart from all other memory of the call. A pointer whose
+ * A slice is a pointer and a length in elements. Each pointer must have as many elements as its length says, and what
+ * is written must not overlap anything else that is handed in; nothing more is asked of the caller. A pointer whose
  * length is 0 is not read. Each call returns the number of its answer: 0 is done, any other number is a refusal.
  * After a refusal every lent output and every figure is zero.
  *
- * figures: two places, the answer's two figures. A figures slice of another length counts as an output out of order (5).
+ * figures: two places, the answer's two figures. A figures slice of another length is answered 5,
+ * where the call earns no number that comes before 5.
  */
 #ifndef A6PLAN_H
 #define A6PLAN_H
 
 #include <stddef.h>
 #include <stdint.h>
+
+/* The version of this interface (CHANGELOG.md), as text and by its parts. */
+#define A6PLAN_VERSION "0.2.0"
+#define A6PLAN_VERSION_MAJOR 0
+#define A6PLAN_VERSION_MINOR 2
+#define A6PLAN_VERSION_PATCH 0
+
+/* How many elements an array has, which is the length of its slice; sizeof counts octets. Of an array, not of a pointer. */
+#define A6PLAN_COUNT(array) (sizeof (array) / sizeof (array)[0])
 
 #ifdef __cplusplus
 extern "C" {
