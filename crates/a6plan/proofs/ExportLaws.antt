@@ -65,7 +65,7 @@ kept-out n k size result out end o l e = e ∙ go (eqb n 2) refl
     go true f = rw (keptFor, f, exported-two n k (eqb-true n 2 f)) o
     go false f = rw (keptFor, f, l) (refused-out (exportedNumber n k) _ refl (exported-other n k (eqb-false n 2 f)) result size)
 
--- what `report` makes of an operation's answer and its output: the number, the output and the figures by the exported number
+-- what becomes of an operation's answer and of each of its outputs, by the exported number
 module _ (n k count work : ℕ) (answer : Answer) (r : ℕ) (a : answer ≡ answerBy k count work) (e : r ≡ exportedNumber n (answer .number)) where
   pub exported-number : r ≡ exportedNumber n k
   exported-number = e ∙ ap (exportedNumber n) (ap (λ (v : Answer). v .number) a ∙ by-number k count work)
@@ -75,6 +75,15 @@ module _ (n k count work : ℕ) (answer : Answer) (r : ℕ) (a : answer ≡ answ
 
   pub exported-figures : (figures : List ℕ) → figures ≡ exportedFigures r answer n → figures ≡ exportedFigures r (answerBy k count work) n
   exported-figures figures h = h ∙ ap (λ (v : Answer). exportedFigures r v n) a
+
+-- what `report` makes of an operation with one output: the number, the output and the figures
+pub reported : (n k count work size : ℕ) (result out end figures : List ℕ) (answer : Answer) (r : ℕ) → (answer ≡ answerBy k count work) × (out ≡ outBy k result size) → length out ≡ size
+    → (r ≡ exportedNumber n (answer .number)) × ((end ≡ keptFor n out) × (figures ≡ exportedFigures r answer n))
+    → (r ≡ exportedNumber n k) × ((end ≡ outBy r result size) × (figures ≡ exportedFigures r (answerBy k count work) n))
+reported n k count work size result out end figures answer r o l t = (
+  exported-number n k count work answer r (o .0) (t .0),
+  (exported-out n k count work answer r (o .0) (t .0) size result out end (o .1) l (t .1 .0), exported-figures n k count work answer r (o .0) (t .0) figures (t .1 .1)),
+)
 
 pub keeps-two : (n : ℕ) (out : List ℕ) → n ≡ 2 → out ≡ keptFor n out
 unfolding keptFor

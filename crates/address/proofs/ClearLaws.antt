@@ -11,7 +11,7 @@ use native.Mathlib.Omega.{arith}
 use native.Mathlib.Numerals.{add-one}
 use native.Mathlib.Nat.{mod-one, zero-mod, zero-div}
 use borrow.Author.Tests.{eqb-true, eqb-false, eq-eqb, ne-eqb}
-use Rattle.octets.specs.Octets.{blank, same}
+use Rattle.octets.specs.Octets.{blank, sameBy}
 use Rattle.octets.specs.Zeros.{isBlank}
 use Rattle.bits.specs.Bits.{bitsOf, unpack}
 use Rattle.octets.proofs.ZeroLaws.{blank-eq, blank-cons}
@@ -27,7 +27,7 @@ zero-at : (bs : List ℕ) → isBlank bs ≡ true → (i : ℕ) → getD bs i 0 
 zero-at bs h i = ap (λ (l : List ℕ). getD l i 0) (blank-eq bs h) ∙ getD-blank (length bs) i
 
 zero-take : (n : ℕ) (bs : List ℕ) → ((i : ℕ) → i < n → getD bs i 0 ≡ 0) → isBlank (take n bs) ≡ true
-unfolding isBlank same blank
+unfolding isBlank sameBy blank
 zero-take zero bs h = refl
 zero-take (suc n) [] h = refl
 zero-take (suc n) (b ∷ bs) h = rw (blank-cons b (take n bs), eq-eqb b 0 (h 0 (omega arith))) (zero-take n bs (λ i p. h (suc i) (omega arith)))
@@ -45,7 +45,7 @@ unfolding bitAt clearTo bits unpack
 clear-bits n a h c i p = sym (getD-take n (bits a) i 0 p) ∙ ap (λ (bs : List ℕ). getD bs i 0) (sym (unpack-less n 128 a h)) ∙ zero-at (unpack n a) c i
 
 pub clear-zero : (a : List ℕ) → clearTo 0 a ≡ true
-unfolding clearTo isBlank same blank
+unfolding clearTo isBlank sameBy blank
 clear-zero a = ap isBlank (unpack-zero a)
 
 -- the bits above the place of a join are those of its first address
@@ -84,7 +84,7 @@ clear-nought n xs = rw (clear-octet n 0 xs, zero-div (2 ^ (8 - min 8 n)), zero-m
 
 -- zeros are clear, and an address that is clear throughout is zeros
 pub clear-blank : (n m : ℕ) → clearTo n (blank m) ≡ true
-unfolding blank clearTo isBlank same unpack
+unfolding blank clearTo isBlank sameBy unpack
 clear-blank n zero = refl
 clear-blank n (suc m) = clear-nought n (blank m) ∙ clear-blank (n - 8) m
 
@@ -114,5 +114,5 @@ module _ (n i : ℕ) (a : List ℕ) (p : i < length a) where
       here ∙ rw (j, clear-octet (n % 8) (getD a i 0) (drop (suc i) a), m, z, clear-zero (drop (suc i) a), shr-mod (n % 8) (8 - n % 8) t) (and-true _)
 
 pub clear-out : (n i : ℕ) (a : List ℕ) → length a ≤ i → clearTo n (drop i a) ≡ true
-unfolding clearTo isBlank same blank unpack
+unfolding clearTo isBlank sameBy blank unpack
 clear-out n i a h = rw (drop-of-length-le a {i = i} h) refl

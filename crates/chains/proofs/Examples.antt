@@ -4,7 +4,7 @@ use mathlib.Core.Path.{_≡_, refl}
 use mathlib.Core.List.{List, [], _∷_, _++_, map}
 use lib.Dec.{eqb}
 use lib.ListN.{length, getD}
-use Rattle.octets.specs.Octets.{blank, same}
+use Rattle.octets.specs.Octets.{blank, sameBy}
 use Rattle.bits.specs.Bits.{unpack, pack, packFrom, bitsOf}
 use Rattle.address.specs.Address.{bits, bitAt}
 use Rattle.address.specs.Order.{orderOf}
@@ -141,5 +141,5 @@ unfolding cases graphOf addressesOf gather insert orderOf lastLength spelt spelt
 addresses-hold = refl
 
 lifetimes-hold : map (λ c. map (lifetimeOf (graphOf (c .table)) (c .name)) (c .addresses)) cases ≡ map (λ c. c .lifetimes) cases
-unfolding cases graphOf lifetimeOf lifetimeIn leastTtl same lastLength spelt speltBit bitAt bits unpack pack chainsOf chainsFrom paths extend upTo free blank packFrom bitsOf
+unfolding cases graphOf lifetimeOf lifetimeIn leastTtl sameBy lastLength spelt speltBit bitAt bits unpack pack chainsOf chainsFrom paths extend upTo free blank packFrom bitsOf
 lifetimes-hold = refl

@@ -7,22 +7,10 @@ use Rattle.octets.specs.Octets.{blank, flat}
 use Rattle.octets.specs.Numbers.{octetsOf}
 use Rattle.octets.specs.Answers.{answering, refusal}
 use Rattle.octets.specs.declared.Answer.{Answer}
+use Rattle.names.proofs.Samples.{ha, pa, qa, xa}
 use Rattle.plan.specs.Layout.{recordSize, slotSize, ttlSize, ttlPlace, a6, slotOf, recordOf}
 use Rattle.collapse.specs.Collapse.{collapseOf}
 use Rattle.collapse.proofs.Computing.{collapses-compute}
-
--- names: h.a, p.a, q.a, x.a
-ha : List ℕ
-ha = 1 ∷ 104 ∷ 1 ∷ 97 ∷ 0 ∷ []
-
-pa : List ℕ
-pa = 1 ∷ 112 ∷ 1 ∷ 97 ∷ 0 ∷ []
-
-qa : List ℕ
-qa = 1 ∷ 113 ∷ 1 ∷ 97 ∷ 0 ∷ []
-
-xa : List ℕ
-xa = 1 ∷ 120 ∷ 1 ∷ 97 ∷ 0 ∷ []
 
 -- a bit label of sixteen bits, and the same name as two labels of eight
 sixteen : List ℕ
@@ -60,32 +48,32 @@ lasting ttl r = take ttlPlace r ++ octetsOf ttlSize ttl
 
 -- h.a → A6 64 ::7 p.a, and p.a → A6 0 2001:db8:0:5::
 plain : List ℕ
-unfolding flat toward finished ha pa host subnet
+unfolding flat toward finished host subnet
 plain = flat (toward ha 64 (host 7) pa ∷ finished pa (subnet 5 0) ∷ [])
 
 -- h.a → A6 48 :: p.a; p.a → A6 64 ::1 q.a and A6 0 2001:db8::; q.a → A6 0 2001:db8:1::
 ignored : List ℕ
-unfolding flat toward finished ha pa qa host site
+unfolding flat toward finished host site
 ignored = flat (toward ha 48 (host 0) pa ∷ toward pa 64 (host 1) qa ∷ finished pa (site 0) ∷ finished qa (site 1) ∷ [])
 
 -- x.a → A6 48 ::1 x.a, and x.a → A6 0 2001:db8::
 loop : List ℕ
-unfolding flat toward finished xa host site
+unfolding flat toward finished host site
 loop = flat (toward xa 48 (host 1) xa ∷ finished xa (site 0) ∷ [])
 
 -- a prefix length inside an octet: the sixteen bits → A6 60 ::7 p.a, and p.a → A6 0 2001:db8:0:55::
 uneven : List ℕ
-unfolding flat toward finished sixteen pa host subnet
+unfolding flat toward finished sixteen host subnet
 uneven = flat (toward sixteen 60 (host 7) pa ∷ finished pa (subnet 0x55 0) ∷ [])
 
 -- the first table once more, with TTLs
 lived : ℕ → ℕ → List ℕ
-unfolding flat lasting toward finished ha pa host subnet
+unfolding flat lasting toward finished host subnet
 lived m n = flat (lasting m (toward ha 64 (host 7) pa) ∷ lasting n (finished pa (subnet 5 0)) ∷ [])
 
 -- what the fold of h.a makes of it: a record of the TTL k
 folded : ℕ → ℕ → List ℕ
-unfolding flat lasting finished ha pa subnet
+unfolding flat lasting finished subnet
 folded k n = flat (lasting k (finished ha (subnet 5 7)) ∷ lasting n (finished pa (subnet 5 0)) ∷ [])
 
 pub record Case : Type 0 where
@@ -108,11 +96,11 @@ refuses t x size k = record { table = t; name = x; size = size; answer = refusal
 
 -- r of the TTL m and q of the TTL n make a record of the TTL k
 pub lives : ℕ → ℕ → ℕ → Case
-unfolding lived folded ha
+unfolding lived folded
 lives m n k = record { table = lived m n; name = ha; size = 2 * recordSize; answer = answering 2 0; output = folded k n }
 
 pub cases : List Case
-unfolding plain ignored loop uneven ha pa qa xa sixteen eights host subnet site toward finished flat blank lived refuses lives
+unfolding plain ignored loop uneven sixteen eights host subnet site toward finished flat blank lived refuses lives
 cases =
     -- the marked two
     record { table = plain; name = ha; size = 3 * recordSize; answer = answering 2 0; output = flat (finished ha (subnet 5 7) ∷ finished pa (subnet 5 0) ∷ []) ++ blank recordSize }

@@ -10,8 +10,8 @@ use lib.Dec.{leb, ltb, eqb}
 use lib.ListN.{length, take, drop, length-append, length-drop, drop-of-length-le}
 use lib.Seq.{paste, take-at, drop-drop, drop-append-add, take-all, length-take-le}
 use borrow.Author.Tests.{lt-ltb, le-ltb, le-leb, lt-leb, ltb-true, ltb-false, eqb-true, eqb-false}
-use Rattle.octets.proofs.BoolLaws.{clash, refuted}
-use Rattle.plan.proofs.FaultLaws.{a6-not}
+use Rattle.octets.proofs.BoolLaws.{and-true, clash, refuted}
+use Rattle.plan.proofs.FaultLaws.{a6-is, a6-not}
 use Rattle.octets.specs.Octets.{blank, flat}
 use Rattle.names.specs.Standard.{Same, sameName}
 use Rattle.chains.specs.Lists.{pick, upTo}
@@ -21,10 +21,10 @@ use Rattle.plan.specs.Layout.{recordSize, a6, typeOf, prefixOf, isA6, ownerOf, 
 use Rattle.plan.specs.Check.{InOrder}
 use Rattle.plan.proofs.LayoutLaws.{Whole, record-length, octets-length}
 use Rattle.plan.proofs.OrderLaws.{order-good}
-use Rattle.collapse.specs.Fold.{unfinished, continues, refers, ignores, reviving, madeOf, placeOf, foldOf}
+use Rattle.collapse.specs.Fold.{leads, unfinished, continues, refers, ignores, reviving, madeOf, placeOf, foldOf}
 use Rattle.collapse.specs.declared.Span.{Span}
 use Rattle.collapse.specs.Running.{Fit, leastOf, mostOf, spanOf, storedOne, stored, Put}
-use Rattle.collapse.proofs.TestLaws.{type-a6, reviving-is, is-reviving, unfinished-is, is-unfinished, refers-is, is-refers}
+use Rattle.collapse.proofs.TestLaws.{reviving-is, is-reviving, unfinished-is, is-unfinished, refers-is, is-refers}
 use Rattle.collapse.proofs.FoldLaws.{made-on, made-off}
 
 -- ---- the tests of records, in the order of the code
@@ -38,30 +38,31 @@ second-no false b c e = refl
 third : (a b c : Bool) → a ≡ true → b ≡ true → a && b && c ≡ c
 third a b c e f = rw (e, f)
 
+module _ (r : List ℕ) (b : Bool) where
+  pub leads-other : (typeOf r ≡ a6 → ⊥) → leads r && b ≡ false
+  leads-other h = first-no (isA6 r) (ltb 0 (prefixOf r)) b (a6-not r h)
+
+  pub leads-zero : prefixOf r ≡ 0 → leads r && b ≡ false
+  leads-zero h = second-no (isA6 r) (ltb 0 (prefixOf r)) b (le-ltb 0 (prefixOf r) (omega arith))
+
+  pub leads-on : typeOf r ≡ a6 → (prefixOf r ≡ 0 → ⊥) → leads r && b ≡ b
+  leads-on k h = third (isA6 r) (ltb 0 (prefixOf r)) b (a6-is r k) (lt-ltb 0 (prefixOf r) (omega (arith, h)))
+
+-- a record that has a target, by its fields and back
+pub leads-is : (r : List ℕ) → typeOf r ≡ a6 → (prefixOf r ≡ 0 → ⊥) → leads r ≡ true
+leads-is r k h = sym (and-true (leads r)) ∙ leads-on r true k h
+
+pub leads-some : (r : List ℕ) → leads r ≡ true → prefixOf r ≡ 0 → ⊥
+leads-some r h z = clash (and-true (leads r) ∙ h) (leads-zero r true z)
+
 module _ (x r : List ℕ) where
-  pub unfinished-other : (typeOf r ≡ a6 → ⊥) → unfinished x r ≡ false
+  pub unfinished-leads : unfinished x r ≡ (leads r && sameName (ownerOf r) x)
   unfolding unfinished
-  unfinished-other h = first-no (isA6 r) (ltb 0 (prefixOf r)) (sameName (ownerOf r) x) (a6-not r h)
+  unfinished-leads = refl
 
-  pub unfinished-zero : prefixOf r ≡ 0 → unfinished x r ≡ false
-  unfolding unfinished
-  unfinished-zero h = second-no (isA6 r) (ltb 0 (prefixOf r)) (sameName (ownerOf r) x) (le-ltb 0 (prefixOf r) (omega arith))
-
-  pub unfinished-on : typeOf r ≡ a6 → (prefixOf r ≡ 0 → ⊥) → unfinished x r ≡ sameName (ownerOf r) x
-  unfolding unfinished
-  unfinished-on k h = third (isA6 r) (ltb 0 (prefixOf r)) (sameName (ownerOf r) x) (type-a6 r k) (lt-ltb 0 (prefixOf r) (omega (arith, h)))
-
-  pub refers-other : (typeOf r ≡ a6 → ⊥) → refers x r ≡ false
+  pub refers-leads : refers x r ≡ (leads r && sameName (targetOf r) x)
   unfolding refers
-  refers-other h = first-no (isA6 r) (ltb 0 (prefixOf r)) (sameName (targetOf r) x) (a6-not r h)
-
-  pub refers-zero : prefixOf r ≡ 0 → refers x r ≡ false
-  unfolding refers
-  refers-zero h = second-no (isA6 r) (ltb 0 (prefixOf r)) (sameName (targetOf r) x) (le-ltb 0 (prefixOf r) (omega arith))
-
-  pub refers-on : typeOf r ≡ a6 → (prefixOf r ≡ 0 → ⊥) → refers x r ≡ sameName (targetOf r) x
-  unfolding refers
-  refers-on k h = third (isA6 r) (ltb 0 (prefixOf r)) (sameName (targetOf r) x) (type-a6 r k) (lt-ltb 0 (prefixOf r) (omega (arith, h)))
+  refers-leads = refl
 
 module _ (r q : List ℕ) where
   pub continues-other : (typeOf q ≡ a6 → ⊥) → continues r q ≡ false
@@ -74,7 +75,7 @@ module _ (r q : List ℕ) where
 
   pub continues-on : typeOf q ≡ a6 → prefixOf q ≤ prefixOf r → continues r q ≡ sameName (ownerOf q) (targetOf r)
   unfolding continues
-  continues-on k h = third (isA6 q) (leb (prefixOf q) (prefixOf r)) (sameName (ownerOf q) (targetOf r)) (type-a6 q k) (le-leb (prefixOf q) (prefixOf r) h)
+  continues-on k h = third (isA6 q) (leb (prefixOf q) (prefixOf r)) (sameName (ownerOf q) (targetOf r)) (a6-is q k) (le-leb (prefixOf q) (prefixOf r) h)
 
 -- ---- the least and the greatest value of those that pass a test
 module _ (f : ℕ → Bool) (v : ℕ → ℕ) where

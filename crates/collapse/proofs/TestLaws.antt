@@ -4,14 +4,16 @@ use mathlib.Core.Path.{_≡_, refl}
 use mathlib.Core.Bool.{Bool, true, false, _&&_}
 use mathlib.Core.List.{List}
 use native.Mathlib.Omega.{arith}
-use borrow.Author.Tests.{lt-ltb, ltb-true, le-leb, leb-true, eq-eqb, eqb-true}
+use borrow.Author.Tests.{lt-ltb, ltb-true, le-leb, leb-true}
 use Rattle.octets.proofs.BoolLaws.{clash}
+use Rattle.names.specs.Standard.{Same, sameName}
 use Rattle.names.proofs.StandardLaws.{same-name-same, same-same-name}
 use Rattle.chains.proofs.ListLaws.{both-true}
 use Rattle.plan.specs.First.{firstFrom, some}
-use Rattle.plan.specs.Layout.{a6, typeOf, prefixOf, isA6, ownerOf, targetOf, countOf, recordAt}
+use Rattle.plan.specs.Layout.{a6, typeOf, prefixOf, ownerOf, targetOf, countOf, recordAt}
 use Rattle.plan.proofs.FirstLaws.{first-none, some-none}
-use Rattle.collapse.specs.Fold.{unfinished, continues, refers, ignores, reviving}
+use Rattle.plan.proofs.FaultLaws.{a6-is, is-a6}
+use Rattle.collapse.specs.Fold.{leads, unfinished, continues, refers, ignores, reviving}
 use Rattle.collapse.specs.Rule.{Unfinished, Continues, Refers, Reviving}
 
 -- ---- truth values
@@ -25,48 +27,44 @@ three a b c h =
 three-true : (a b c : Bool) → a ≡ true → b ≡ true → c ≡ true → a && b && c ≡ true
 three-true a b c p q r = rw (p, q) r
 
--- the type as a test
-pub a6-type : (r : List ℕ) → isA6 r ≡ true → typeOf r ≡ a6
-unfolding isA6
-a6-type r h = eqb-true (typeOf r) a6 h
-
-pub type-a6 : (r : List ℕ) → typeOf r ≡ a6 → isA6 r ≡ true
-unfolding isA6
-type-a6 r h = eq-eqb (typeOf r) a6 h
-
 -- ---- records
-pub unfinished-is : (x r : List ℕ) → unfinished x r ≡ true → Unfinished x r
-unfolding unfinished
-unfinished-is x r h =
-    let p = three _ _ _ h in
-    (a6-type r (p .0), ltb-true 0 (prefixOf r) (p .1), same-name-same (ownerOf r) x (p .2))
+-- a record that has a target, and a name of it that is x
+module _ (r n x : List ℕ) where
+  named-is : leads r && sameName n x ≡ true → (typeOf r ≡ a6) × (0 < prefixOf r) × Same n x
+  named-is h =
+      let p = three _ _ _ h in
+      (is-a6 r (p .0), ltb-true 0 (prefixOf r) (p .1), same-name-same n x (p .2))
 
-pub is-unfinished : (x r : List ℕ) → Unfinished x r → unfinished x r ≡ true
-unfolding unfinished
-is-unfinished x r u =
-    three-true _ _ _ (type-a6 r (u .0)) (lt-ltb 0 (prefixOf r) (u .1)) (same-same-name (ownerOf r) x (u .2))
+  is-named : (typeOf r ≡ a6) × (0 < prefixOf r) × Same n x → leads r && sameName n x ≡ true
+  is-named u = three-true _ _ _ (a6-is r (u .0)) (lt-ltb 0 (prefixOf r) (u .1)) (same-same-name n x (u .2))
 
-pub refers-is : (x r : List ℕ) → refers x r ≡ true → Refers x r
-unfolding refers
-refers-is x r h =
-    let p = three _ _ _ h in
-    (a6-type r (p .0), ltb-true 0 (prefixOf r) (p .1), same-name-same (targetOf r) x (p .2))
+module _ (x r : List ℕ) where
+  pub unfinished-is : unfinished x r ≡ true → Unfinished x r
+  unfolding unfinished
+  unfinished-is = named-is r (ownerOf r) x
 
-pub is-refers : (x r : List ℕ) → Refers x r → refers x r ≡ true
-unfolding refers
-is-refers x r u =
-    three-true _ _ _ (type-a6 r (u .0)) (lt-ltb 0 (prefixOf r) (u .1)) (same-same-name (targetOf r) x (u .2))
+  pub refers-is : refers x r ≡ true → Refers x r
+  unfolding refers
+  refers-is = named-is r (targetOf r) x
+
+  pub is-unfinished : Unfinished x r → unfinished x r ≡ true
+  unfolding unfinished
+  is-unfinished = is-named r (ownerOf r) x
+
+  pub is-refers : Refers x r → refers x r ≡ true
+  unfolding refers
+  is-refers = is-named r (targetOf r) x
 
 pub continues-is : (r q : List ℕ) → continues r q ≡ true → Continues r q
 unfolding continues
 continues-is r q h =
     let p = three _ _ _ h in
-    (a6-type q (p .0), leb-true _ _ (p .1), same-name-same (ownerOf q) (targetOf r) (p .2))
+    (is-a6 q (p .0), leb-true _ _ (p .1), same-name-same (ownerOf q) (targetOf r) (p .2))
 
 pub is-continues : (r q : List ℕ) → Continues r q → continues r q ≡ true
 unfolding continues
 is-continues r q u =
-    three-true _ _ _ (type-a6 q (u .0)) (le-leb _ _ (u .1)) (same-same-name (ownerOf q) (targetOf r) (u .2))
+    three-true _ _ _ (a6-is q (u .0)) (le-leb _ _ (u .1)) (same-same-name (ownerOf q) (targetOf r) (u .2))
 
 -- ---- some number below n passes a test
 pub first-passes : (f : ℕ → Bool) (i n : ℕ) → firstFrom f i n < i + n → f (firstFrom f i n) ≡ true

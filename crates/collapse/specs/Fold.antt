@@ -9,9 +9,13 @@ use Rattle.chains.specs.Lists.{pick, upTo}
 use Rattle.plan.specs.First.{some}
 use Rattle.plan.specs.Layout.{a6, prefixOf, addressOf, ownerSlot, targetSlot, ttlOf, isA6, ownerOf, targetOf, recordOf, countOf, recordAt, prefixAt}
 
--- r is an unfinished A6 record of x: its prefix length is over 0 (unfinished is 01's term)
+-- r is an A6 record that has a target: its prefix length is over 0
+abbrev pub leads : List ℕ → Bool
+leads r = isA6 r && ltb 0 (prefixOf r)
+
+-- r is such a record of x (unfinished is 01's term)
 unfoldable pub unfinished : List ℕ → List ℕ → Bool
-unfinished x r = isA6 r && ltb 0 (prefixOf r) && sameName (ownerOf r) x
+unfinished x r = leads r && sameName (ownerOf r) x
 
 -- q is an A6 record that the target of r owns, and it is no longer than r
 unfoldable pub continues : List ℕ → List ℕ → Bool
@@ -33,9 +37,9 @@ placeOf x t i = pick (unfinished x (recordAt t i)) (upTo (countOf t) (madeOf t (
 unfoldable pub foldOf : List ℕ → List ℕ → List (List ℕ)
 foldOf x t = upTo (countOf t) (placeOf x t)
 
--- p is an A6 record with the target x; a finished record has no target
+-- p is such a record with the target x
 unfoldable pub refers : List ℕ → List ℕ → Bool
-refers x p = isA6 p && ltb 0 (prefixOf p) && sameName (targetOf p) x
+refers x p = leads p && sameName (targetOf p) x
 
 -- the record at p refers to x and is shorter than the unfinished record of x at r
 unfoldable pub ignores : List ℕ → List ℕ → ℕ → ℕ → Bool

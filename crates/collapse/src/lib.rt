@@ -1,16 +1,16 @@
 // Collapse of a name (01, Collapse of a name X; T-01): its meaning, its running form, and what no list of collapses changes.
 ghost use mathlib.Core.Path.{_≡_};
-ghost use mathlib.Core.Bool.{true};
+ghost use mathlib.Core.Bool.{true, _&&_};
 ghost use Prim.Native.Nat.{_+_, _*_, _/_, _%_, _≤_, _<_, min, max};
 ghost use lib.ListN.{length};
 ghost use Rattle.octets.specs.Octets.{blank};
 ghost use Rattle.octets.specs.Answers.{refusal};
-ghost use Rattle.names.specs.Standard.{inStandardForm};
+ghost use Rattle.names.specs.Standard.{sameName, inStandardForm};
 ghost use Rattle.address.specs.Address.{joinOf};
 ghost use Rattle.chains.specs.Lists.{pick, upTo};
-ghost use Rattle.plan.specs.Layout.{recordSize, maxRecords, slotSize, prefixOf, prefixAt, addressAt, ttlAt, countOf, recordAt};
+ghost use Rattle.plan.specs.Layout.{recordSize, maxRecords, slotSize, nameIn, prefixOf, prefixAt, addressAt, ttlAt, countOf, recordAt};
 ghost use Rattle.plan.specs.Check.{InOrder};
-ghost use Rattle.collapse.specs.Fold.{unfinished, continues, refers, joinedOf, madeOf, placeOf};
+ghost use Rattle.collapse.specs.Fold.{leads, unfinished, continues, refers, joinedOf, madeOf, placeOf};
 ghost use Rattle.collapse.specs.Collapse.{collapseAnswer, collapseOut};
 ghost use Rattle.collapse.specs.Running.{Fit, spanOf, bucketOf, Linked, storedOne, stored, Put};
 
@@ -93,13 +93,7 @@ fn is_unfinished(row: &[u8], name: &[u8]) -> bool
     requires { ⌜ Fit (now row) × (inStandardForm (now name) ≡ true) ⌝ }
     ensures { λ r. ⌜ r ≡ unfinished (now (name .entry)) (now (row .entry)) ⌝ }
 {
-    if plan::inside::kind_of(row) != plan::inside::A6 {
-        return false;
-    }
-    if plan::inside::prefix_of(row) == 0 {
-        return false;
-    }
-    names::inside::equal(plan::inside::name_in(plan::inside::owner_slot(row)), name)
+    is_named(row, plan::inside::owner_slot(row), name)
 }
 
 // Whether a record is an A6 record whose target is a name.
@@ -107,13 +101,22 @@ fn is_referrer(row: &[u8], name: &[u8]) -> bool
     requires { ⌜ Fit (now row) × (inStandardForm (now name) ≡ true) ⌝ }
     ensures { λ r. ⌜ r ≡ refers (now (name .entry)) (now (row .entry)) ⌝ }
 {
+    is_named(row, plan::inside::target_slot(row), name)
+}
+
+// Whether a record is an A6 record with a target, and the name in a slot of it is this one.
+fn is_named(row: &[u8], slot: &[u8], name: &[u8]) -> bool
+    requires { ⌜ (length (now row) ≡ recordSize) × (length (now slot) ≡ slotSize) ⌝ }
+    requires { ⌜ (leads (now row) ≡ true → inStandardForm (nameIn (now slot)) ≡ true) × (inStandardForm (now name) ≡ true) ⌝ }
+    ensures { λ r. ⌜ r ≡ (leads (now (row .entry)) && sameName (nameIn (now (slot .entry))) (now (name .entry))) ⌝ }
+{
     if plan::inside::kind_of(row) != plan::inside::A6 {
         return false;
     }
     if plan::inside::prefix_of(row) == 0 {
         return false;
     }
-    names::inside::equal(plan::inside::name_in(plan::inside::target_slot(row)), name)
+    names::inside::equal(plan::inside::name_in(slot), name)
 }
 
 // Whether q is an A6 record that the target of the unfinished record r owns, no longer than r.
@@ -301,7 +304,8 @@ fn put_joined(table: &[u8], i: usize, j: usize, out: &mut [u8], n: usize)
         let ttl = joined_ttl(table, i, j);
         let owner = plan::inside::owner_slot(plan::inside::row(table, i));
         let target = plan::inside::target_slot(plan::inside::row(table, j));
-        plan::inside::write_a6(
+        plan::inside::write_record(
+            plan::inside::A6,
             plan::inside::prefix(table, j),
             address,
             owner,

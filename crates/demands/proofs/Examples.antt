@@ -3,11 +3,12 @@ use Prim.Native.Nat.{ℕ, _*_, _/_, _%_}
 use mathlib.Core.Path.{_≡_, refl}
 use mathlib.Core.List.{List, [], _∷_, _++_, map}
 use lib.ListN.{replicate}
-use Rattle.octets.specs.Octets.{blank, same, flat}
+use Rattle.octets.specs.Octets.{blank, sameBy, flat}
 use Rattle.octets.specs.declared.Answer.{Answer}
 use Rattle.address.specs.Address.{bitAt}
 use Rattle.address.specs.Order.{orderOf}
 use Rattle.names.specs.Name.{nameOf}
+use Rattle.names.proofs.Samples.{ha, pa, qa, xa}
 use Rattle.chains.specs.Chain.{lastLength, speltBit, spelt}
 use Rattle.chains.specs.Listing.{free, extend, paths, chainsFrom, chainsOf, workOf}
 use Rattle.chains.specs.Addresses.{insert, gather, addressesOf}
@@ -77,19 +78,6 @@ pub given : Case → Outcome
 unfolding outcome
 given c = outcome (c .input)
 
--- ---- the names h.a, p.a, q.a and x.a
-ha : List ℕ
-ha = 1 ∷ 104 ∷ 1 ∷ 97 ∷ 0 ∷ []
-
-pa : List ℕ
-pa = 1 ∷ 112 ∷ 1 ∷ 97 ∷ 0 ∷ []
-
-qa : List ℕ
-qa = 1 ∷ 113 ∷ 1 ∷ 97 ∷ 0 ∷ []
-
-xa : List ℕ
-xa = 1 ∷ 120 ∷ 1 ∷ 97 ∷ 0 ∷ []
-
 -- ---- addresses by their eight groups
 ip : ℕ → ℕ → ℕ → ℕ → ℕ → ℕ → ℕ → ℕ → List ℕ
 ip a b c d e f g h = octets a ++ octets b ++ octets c ++ octets d ++ octets e ++ octets f ++ octets g ++ octets h
@@ -108,22 +96,22 @@ finished owner address ttl = recordOf a6 0 address (slotOf owner) (blank slotSiz
 
 -- h.a → A6 64 ::7 p.a, and p.a → A6 0 2001:db8:0:5::
 plain : List ℕ
-unfolding flat toward finished ha pa ip
+unfolding flat toward finished ip
 plain = flat (toward ha 64 (ip 0 0 0 0 0 0 0 7) pa 300 ∷ finished pa (ip 0x2001 0xdb8 0 5 0 0 0 0) 600 ∷ [])
 
 -- h.a → A6 0 2001:db8:0:5::7, and p.a as it was
 folded : List ℕ
-unfolding flat finished ha pa ip
+unfolding flat finished ip
 folded = flat (finished ha (ip 0x2001 0xdb8 0 5 0 0 0 7) 300 ∷ finished pa (ip 0x2001 0xdb8 0 5 0 0 0 0) 600 ∷ [])
 
 -- x.a → A6 48 ::1 x.a, and x.a → A6 0 2001:db8::
 loop : List ℕ
-unfolding flat toward finished xa ip
+unfolding flat toward finished ip
 loop = flat (toward xa 48 (ip 0 0 0 0 0 0 0 1) xa 60 ∷ finished xa (ip 0x2001 0xdb8 0 0 0 0 0 0) 600 ∷ [])
 
 -- h.a → A6 48 :: p.a; p.a → A6 64 ::1 q.a and p.a → A6 0 2001:db8::; q.a → A6 0 2001:db8:1::
 ignored : List ℕ
-unfolding flat toward finished ha pa qa ip
+unfolding flat toward finished ip
 ignored =
     flat
     (toward ha 48 (ip 0 0 0 0 0 0 0 0) pa 300
@@ -134,7 +122,7 @@ ignored =
 
 -- h.a → A6 64 ::7 p.a and h.a → A6 64 ::7 q.a; p.a → A6 0 2001:db8:0:5:: and q.a → A6 0 2001:db8:0:5::, of four TTLs
 twice : List ℕ
-unfolding flat toward finished ha pa qa ip
+unfolding flat toward finished ip
 twice =
     flat
     (toward ha 64 (ip 0 0 0 0 0 0 0 7) pa 900
@@ -145,7 +133,7 @@ twice =
 
 -- h.a → A6 64 ::7 p.a; p.a → A6 64 ::9 h.a, with the smaller TTL, and p.a → A6 0 2001:db8:0:5::
 back : List ℕ
-unfolding flat toward finished ha pa ip
+unfolding flat toward finished ip
 back =
     flat
     (toward ha 64 (ip 0 0 0 0 0 0 0 7) pa 300 ∷ toward pa 64 (ip 0 0 0 0 0 0 0 9) ha 1 ∷ finished pa (ip 0x2001 0xdb8 0 5 0 0 0 0) 600 ∷ [])
@@ -160,7 +148,7 @@ value l address name = record { prefix = l; address = address; name = nameOf nam
 
 -- ---- the table
 pub cases : List Case
-unfolding row lasting plain folded loop ignored twice back ha pa qa xa ip ones value blank valueOctets
+unfolding row lasting plain folded loop ignored twice back ip ones value blank valueOctets
 cases =
     -- 0: 16 octets of suffix
     row (read (0 ∷ ones 16)) 0 [] (valueOctets (value 0 (ones 16) []))
@@ -199,5 +187,5 @@ cases =
 
 -- of each case the definitions give just what is expected
 pub all : map given cases ≡ map expected cases
-unfolding given expected cases data-compute collapses-compute lookupNumber numberOf ownsA6 chainsOf chainsFrom paths extend free workOf addressesOf gather insert orderOf lastLength spelt speltBit bitAt lifetimeOf lifetimeIn leastTtl same flat
+unfolding given expected cases data-compute collapses-compute lookupNumber numberOf ownsA6 chainsOf chainsFrom paths extend free workOf addressesOf gather insert orderOf lastLength spelt speltBit bitAt lifetimeOf lifetimeIn leastTtl sameBy flat
 all = refl

@@ -126,7 +126,16 @@ fn put_a6(line: &[u8], table: &mut [u8], size: usize)
     let prefix = text::prefix(line, 2);
     let address = text::address(line, 3);
     let target = text::slot(line, 4);
-    plan::inside::write_a6(prefix, address, &owner, &target, TTL, table, size);
+    plan::inside::write_record(
+        plan::inside::A6,
+        prefix,
+        address,
+        &owner,
+        &target,
+        TTL,
+        table,
+        size,
+    );
 }
 
 fn put_dname(line: &[u8], table: &mut [u8], size: usize)

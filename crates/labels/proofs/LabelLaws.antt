@@ -14,6 +14,7 @@ use Rattle.labels.specs.Labels.{firstOf, isLabel, countFor, countOf, siz
 use Rattle.octets.proofs.AnswerLaws.{earns-zero}
 use Rattle.octets.proofs.BoolLaws.{and-false}
 use Rattle.labels.specs.Reads.{Sound}
+use Rattle.labels.specs.declared.Step.{Step}
 use Rattle.labels.specs.Steps.{broken, stepAt, stepFor, stepOf}
 
 pub is-ordinary : (x : ℕ) → x < 64 → isLabel x ≡ true
@@ -90,9 +91,9 @@ module _ (used run : ℕ) (xs : List ℕ) where
   fault-none s k f o u r =
       rw (faultOf, ne-eqb (length xs) 0 (λ e. omega arith), k, le-ltb (length xs) (sizeOf xs) f, le-ltb 255 (used + sizeOf xs) o, u, le-ltb 256 (runOf run xs) r)
 
-  pub step-broken : (n : ℕ) → faultOf used run xs ≡ suc n → stepOf used run xs ≡ broken (suc n)
+  pub step-broken : {r : Step} (n : ℕ) → r ≡ broken (suc n) → faultOf used run xs ≡ suc n → r ≡ stepOf used run xs
   unfolding stepOf
-  step-broken n e = rw e
+  step-broken n e f = rw f e
 
   pub step-none : faultOf used run xs ≡ 0 → stepOf used run xs ≡ stepAt (used + sizeOf xs) (runOf run xs)
   unfolding stepOf

@@ -7,5 +7,6 @@ pub mod AnswerLaws
 pub mod FrontLaws
 pub mod NameLaws
 pub mod MergeLaws
+pub mod Samples
 pub mod Examples
 pub mod Computing

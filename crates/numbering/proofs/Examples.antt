@@ -3,6 +3,7 @@ use Prim.Native.Nat.{ℕ}
 use mathlib.Core.Path.{_≡_, refl}
 use mathlib.Core.List.{List, [], _∷_, map}
 use Rattle.octets.specs.Octets.{blank, flat}
+use Rattle.names.proofs.Samples.{ha, pa, qa, za}
 use Rattle.plan.specs.Layout.{addressSize, slotSize, a6, dname, slotOf, recordOf}
 use Rattle.plan.specs.Check.{checkOf}
 use Rattle.chains.specs.Lists.{upTo}
@@ -12,19 +13,7 @@ use Rattle.plan.specs.Graph.{graphOf}
 use Rattle.plan.proofs.Computing.{tables-compute}
 use Rattle.numbering.specs.Graph.{ownsNumbered, numbered}
 
--- names: h.a, p.a, q.a, z.a, and a name of sixteen bits in one bit label and in two
-ha : List ℕ
-ha = 1 ∷ 104 ∷ 1 ∷ 97 ∷ 0 ∷ []
-
-pa : List ℕ
-pa = 1 ∷ 112 ∷ 1 ∷ 97 ∷ 0 ∷ []
-
-qa : List ℕ
-qa = 1 ∷ 113 ∷ 1 ∷ 97 ∷ 0 ∷ []
-
-za : List ℕ
-za = 1 ∷ 122 ∷ 1 ∷ 97 ∷ 0 ∷ []
-
+-- a name of sixteen bits in one bit label and in two
 whole : List ℕ
 whole = 65 ∷ 16 ∷ 1 ∷ 2 ∷ 0 ∷ []
 
@@ -41,7 +30,7 @@ none = blank slotSize
 
 -- h.a leads to p.a; p.a is finished, and leads to itself and to the bits; a DNAME of q.a comes between
 plan : List ℕ
-unfolding flat recordOf slotOf ha pa qa whole zeros none
+unfolding flat recordOf slotOf whole zeros none
 plan = flat (
     recordOf a6 64 zeros (slotOf ha) (slotOf pa) 300 ∷ recordOf a6 0 zeros (slotOf pa) none 0 ∷ recordOf dname 0 zeros (slotOf qa) (slotOf ha) 3600
     ∷ recordOf a6 48 zeros (slotOf pa) (slotOf pa) 86400 ∷ recordOf a6 32 zeros (slotOf pa) (slotOf whole) 2147483647 ∷ [])
@@ -51,7 +40,7 @@ unfolding tables-compute plan
 in-order = refl
 
 names : namesOf plan ≡ ha ∷ pa ∷ qa ∷ whole ∷ []
-unfolding tables-compute namesOf plan ha pa qa whole
+unfolding tables-compute namesOf plan whole
 names = refl
 
 -- owners, targets, and names that are given
@@ -64,7 +53,7 @@ unfolding tables-compute targetNumber plan
 targets = refl
 
 given : map (numberIn (namesOf plan)) (qa ∷ whole ∷ halves ∷ za ∷ []) ≡ 2 ∷ 3 ∷ 3 ∷ 4 ∷ []
-unfolding tables-compute numberIn namesOf plan qa whole halves za
+unfolding tables-compute numberIn namesOf plan whole halves
 given = refl
 
 -- the TTLs, in the graph over names and in the one over numbers
@@ -77,5 +66,5 @@ ttls = refl
 chains : chainsOf (graphOf plan) ha ∷ chainsOf (numbered plan) 0 ∷ []
     ≡ ((0 ∷ []) ∷ (0 ∷ 1 ∷ []) ∷ (0 ∷ 3 ∷ []) ∷ (0 ∷ 3 ∷ 1 ∷ []) ∷ (0 ∷ 3 ∷ 4 ∷ []) ∷ (0 ∷ 4 ∷ []) ∷ [])
     ∷ ((0 ∷ []) ∷ (0 ∷ 1 ∷ []) ∷ (0 ∷ 3 ∷ []) ∷ (0 ∷ 3 ∷ 1 ∷ []) ∷ (0 ∷ 3 ∷ 4 ∷ []) ∷ (0 ∷ 4 ∷ []) ∷ []) ∷ []
-unfolding tables-compute chainsOf chainsFrom paths free extend upTo ownsNumbered targetNumber plan ha
+unfolding tables-compute chainsOf chainsFrom paths free extend upTo ownsNumbered targetNumber plan
 chains = refl

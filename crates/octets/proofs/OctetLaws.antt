@@ -1,9 +1,9 @@
 -- Laws of zeros and of lists of octets.
-use Prim.Native.Nat.{ℕ, zero, suc, _+_, _-_, _<_}
-use mathlib.Core.Path.{_≡_, refl}
-use mathlib.Core.List.{List, [], _∷_, _++_}
-use lib.ListN.{length, take, drop, set, length-replicate}
-use lib.Seq.{getD-drop}
+use Prim.Native.Nat.{ℕ, zero, suc, _+_, _-_, _≤_, _<_}
+use mathlib.Core.Path.{_≡_, refl, _∙_}
+use mathlib.Core.List.{List, [], _∷_, _++_, append-nil}
+use lib.ListN.{length, take, drop, set, length-set, length-replicate}
+use lib.Seq.{getD-drop, drop-length}
 use native.Mathlib.Omega.{arith}
 use native.Mathlib.Nat.{sub-zero, suc-sub-suc}
 use borrow.Author.Fill.{fill-more}
@@ -20,10 +20,30 @@ drop-blank zero n = rw sub-zero
 drop-blank (suc k) zero = let e : 0 - suc k ≡ 0 = omega arith in rw e
 drop-blank (suc k) (suc n) = rw suc-sub-suc (drop-blank k n)
 
--- a turn of the loop that clears
-pub blank-more : (d : List ℕ) (i : ℕ) → i < length d → set (blank i ++ drop i d) i 0 ≡ blank (i + 1) ++ drop (i + 1) d
+-- the loop that clears a list, of octets or of numbers: what it keeps
+pub record Clearing (old new : List ℕ) (n i : ℕ) : Type 0 where
+  pub low : i ≤ n
+  pub size : n ≡ length old
+  pub long : length new ≡ length old
+  pub clear : new ≡ blank i ++ drop i old
+
+pub clearing-start : (old : List ℕ) → Clearing old old (length old) 0
 unfolding blank
-blank-more d i h = fill-more i 0 d h
+clearing-start old = record { low = omega arith; size = refl; long = refl; clear = refl }
+
+module _ {old new : List ℕ} {n i : ℕ} (c : Clearing old new n i) where
+  pub clearing-turn : i < n → Clearing old (set new i 0) n (i + 1)
+  unfolding blank
+  clearing-turn h =
+      record {
+        low = omega arith;
+        size = c .size;
+        long = length-set new i 0 ∙ c .long;
+        clear = rw (c .clear) (fill-more i 0 old (omega (arith, c .size)));
+      }
+
+  pub clearing-end : n ≤ i → new ≡ blank (length old)
+  clearing-end h = let e : i ≡ length old = omega (arith, c .low, c .size) in rw (c .clear, e, drop-length) (append-nil _)
 
 -- lists of numbers below n
 module _ (n : ℕ) where

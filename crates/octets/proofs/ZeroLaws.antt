@@ -11,7 +11,7 @@ use native.Mathlib.Omega.{arith}
 use native.Mathlib.Numerals.{add-one}
 use borrow.Author.Tests.{eq-eqb, ne-eqb, eqb-true, eqb-false}
 use Rattle.octets.proofs.BoolLaws.{and-true}
-use Rattle.octets.specs.Octets.{blank, same}
+use Rattle.octets.specs.Octets.{blank, sameBy}
 use Rattle.octets.specs.Zeros.{isBlank}
 use Rattle.octets.proofs.SameLaws.{same-eq}
 
@@ -21,12 +21,12 @@ blank-eq xs h = same-eq xs (blank (length xs)) h
 
 -- one more octet
 pub blank-cons : (x : ℕ) (xs : List ℕ) → isBlank (x ∷ xs) ≡ eqb x 0 && isBlank xs
-unfolding isBlank same blank
+unfolding isBlank sameBy blank
 blank-cons x xs = go (eqb x 0) refl
   where
     go : (t : Bool) → eqb x 0 ≡ t → isBlank (x ∷ xs) ≡ eqb x 0 && isBlank xs
-    go true e = rw (isBlank, same, e)
-    go false e = rw (isBlank, same, e)
+    go true e = rw (isBlank, sameBy, e)
+    go false e = rw (isBlank, sameBy, e)
 
 -- an OR is zero exactly when both of its numbers are
 or-zero : (x y : ℕ) → eqb (bitOr x y) 0 ≡ eqb x 0 && eqb y 0
@@ -55,5 +55,5 @@ blank-on xs i all h =
     and-assoc false b c = refl
 
 pub blank-end : (xs : List ℕ) (i all : ℕ) → length xs ≤ i → eqb all 0 && isBlank (drop i xs) ≡ eqb all 0
-unfolding isBlank same blank
+unfolding isBlank sameBy blank
 blank-end xs i all h = rw (drop-of-length-le xs {i = i} h) (and-true (eqb all 0))

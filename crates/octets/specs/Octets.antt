@@ -13,12 +13,16 @@ blank n = replicate n 0
 abbrev pub Small : List ℕ → Type 0
 Small xs = (i : ℕ) → getD xs i 0 < 256
 
--- the same octets, in the same order and number
-unfoldable pub same : List ℕ → List ℕ → Bool
-same [] [] = true
-same [] (y ∷ ys) = false
-same (x ∷ xs) [] = false
-same (x ∷ xs) (y ∷ ys) = elim (eqb x y) [ true ↦ same xs ys | false ↦ false ]
+-- two lists are the same by a test of two elements: in the same order and number
+unfoldable pub sameBy : {A : Type 0} → (A → A → Bool) → List A → List A → Bool
+sameBy f [] [] = true
+sameBy f [] (y ∷ ys) = false
+sameBy f (x ∷ xs) [] = false
+sameBy f (x ∷ xs) (y ∷ ys) = elim (f x y) [ true ↦ sameBy f xs ys | false ↦ false ]
+
+-- the same octets
+abbrev pub same : List ℕ → List ℕ → Bool
+same = sameBy eqb
 
 -- lists of octets, one after the other
 unfoldable pub flat : List (List ℕ) → List ℕ

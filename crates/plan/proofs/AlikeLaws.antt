@@ -82,12 +82,12 @@ name-front (x ∷ s) h = sym (take-take x 31 s (omega arith))
 -- ---- two slots
 module _ (a b : List ℕ) where
   -- eight octets that differ
-  pub alike-off : (i : ℕ) → i + 8 ≤ 32 → (pairAt a i ≡ pairAt b i → ⊥) → alikeOf a b ≡ false
+  pub alike-off : (i x y : ℕ) → i + 8 ≤ 32 → x ≡ pairAt a i → y ≡ pairAt b i → (x ≡ y → ⊥) → alikeOf a b ≡ false
   unfolding alikeOf
-  alike-off i h u = go (same (take 32 a) (take 32 b)) refl
+  alike-off i x y h p q u = go (same (take 32 a) (take 32 b)) refl
     where
       go : (t : Bool) → same (take 32 a) (take 32 b) ≡ t → alikeOf a b ≡ false
-      go true e = absurd (u (sym (pair-front a i h) ∙ ap (λ (s : List ℕ). pairAt s i) (same-eq (take 32 a) (take 32 b) e) ∙ pair-front b i h))
+      go true e = absurd (u (p ∙ sym (pair-front a i h) ∙ ap (λ (s : List ℕ). pairAt s i) (same-eq (take 32 a) (take 32 b) e) ∙ pair-front b i h ∙ sym q))
       go false e = rw e
 
   -- the first 32 octets agree: the length tells

@@ -5,21 +5,16 @@ use mathlib.Core.Bool.{true, false}
 use mathlib.Core.List.{List, [], _∷_, _++_, map}
 use lib.ListN.{take, drop, set, replicate}
 use Rattle.octets.specs.Octets.{blank, flat}
+use Rattle.names.proofs.Samples.{ha, pa}
 use Rattle.plan.specs.Layout.{recordSize, slotSize, addressSize, ttlPlace, a6, dname, ttlOf, slotOf, recordOf}
 use Rattle.plan.specs.Check.{faultOf, checkOf}
 use Rattle.plan.specs.Marks.{markOf, alikeOf}
 use Rattle.plan.specs.Part.{ownerPart}
 use Rattle.plan.proofs.Computing.{tables-compute}
 
--- names: the root, h.a, p.a, two bit labels side by side, and a name that is cut off
+-- names: the root, two bit labels side by side, and a name that is cut off
 root : List ℕ
 root = 0 ∷ []
-
-ha : List ℕ
-ha = 1 ∷ 104 ∷ 1 ∷ 97 ∷ 0 ∷ []
-
-pa : List ℕ
-pa = 1 ∷ 112 ∷ 1 ∷ 97 ∷ 0 ∷ []
 
 adjacent : List ℕ
 adjacent = 65 ∷ 8 ∷ 1 ∷ 65 ∷ 8 ∷ 2 ∷ 0 ∷ []
@@ -46,11 +41,11 @@ none = blank slotSize
 
 -- the length octet says one more than the name has, or what follows the name is not zero
 loose : List ℕ
-unfolding ha blank
+unfolding blank
 loose = 6 ∷ ha ++ blank 250
 
 filled : List ℕ
-unfolding ha blank
+unfolding blank
 filled = 5 ∷ ha ++ (blank 249 ++ (1 ∷ []))
 
 -- a record whose TTL is an hour
@@ -59,11 +54,11 @@ unfolding recordOf
 made type prefix address owner target = recordOf type prefix address owner target 3600
 
 h64 : List ℕ
-unfolding made slotOf ha pa seven
+unfolding made slotOf seven
 h64 = made a6 64 seven (slotOf ha) (slotOf pa)
 
 p0 : List ℕ
-unfolding made slotOf pa five none
+unfolding made slotOf five none
 p0 = made a6 0 five (slotOf pa) none
 
 alias : List ℕ → List ℕ → List ℕ
@@ -74,19 +69,19 @@ alias owner target = made dname 0 zeros (slotOf owner) (slotOf target)
 faults-none : map faultOf (
     h64 ∷ p0 ∷ alias ha pa ∷ alias root root ∷ made a6 128 zeros (slotOf ha) (slotOf root) ∷ [])
     ≡ 0 ∷ 0 ∷ 0 ∷ 0 ∷ 0 ∷ []
-unfolding tables-compute h64 p0 alias made ha pa root zeros
+unfolding tables-compute h64 p0 alias made root zeros
 faults-none = refl
 
 faults-type : map faultOf (made 40 0 five (slotOf pa) none ∷ made 12 0 zeros (slotOf pa) (slotOf ha) ∷ set h64 0 1 ∷ blank recordSize ∷ []) ≡ 1 ∷ 1 ∷ 1 ∷ 1 ∷ []
-unfolding tables-compute h64 made ha pa five zeros none
+unfolding tables-compute h64 made five zeros none
 faults-type = refl
 
 faults-prefix : map faultOf (made a6 129 zeros (slotOf ha) (slotOf pa) ∷ made dname 1 zeros (slotOf ha) (slotOf pa) ∷ []) ≡ 2 ∷ 2 ∷ []
-unfolding tables-compute made ha pa zeros
+unfolding tables-compute made zeros
 faults-prefix = refl
 
 faults-zero : map faultOf (set h64 3 1 ∷ set (alias ha pa) 3 128 ∷ []) ≡ 3 ∷ 3 ∷ []
-unfolding tables-compute h64 alias ha pa
+unfolding tables-compute h64 alias
 faults-zero = refl
 
 -- bits among the first L, and any bit for DNAME; the bit just after the first L is free
@@ -94,14 +89,14 @@ faults-address : map faultOf (
     made a6 128 seven (slotOf ha) (slotOf pa) ∷ made a6 126 seven (slotOf ha) (slotOf pa) ∷ made a6 125 seven (slotOf ha) (slotOf pa)
     ∷ made a6 3 five (slotOf ha) (slotOf pa) ∷ made a6 2 five (slotOf ha) (slotOf pa) ∷ made dname 0 seven (slotOf ha) (slotOf pa) ∷ [])
     ≡ 4 ∷ 4 ∷ 0 ∷ 4 ∷ 0 ∷ 4 ∷ []
-unfolding tables-compute made ha pa seven five
+unfolding tables-compute made seven five
 faults-address = refl
 
 faults-owner : map faultOf (
     made a6 0 five none none ∷ made a6 0 five (slotOf adjacent) none ∷ made a6 0 five (slotOf short) none
     ∷ made a6 0 five loose none ∷ made a6 0 five filled none ∷ made dname 0 zeros filled (slotOf pa) ∷ [])
     ≡ 5 ∷ 5 ∷ 5 ∷ 5 ∷ 5 ∷ 5 ∷ []
-unfolding tables-compute made adjacent short loose filled zeros five none pa
+unfolding tables-compute made adjacent short loose filled zeros five none
 faults-owner = refl
 
 -- the root is a target, and no target is not the root
@@ -110,7 +105,7 @@ faults-target : map faultOf (
     ∷ made dname 0 zeros (slotOf ha) none ∷ made a6 64 seven (slotOf ha) filled ∷ made a6 64 seven (slotOf ha) (slotOf adjacent)
     ∷ made a6 64 seven (slotOf ha) (slotOf root) ∷ [])
     ≡ 6 ∷ 6 ∷ 6 ∷ 6 ∷ 6 ∷ 6 ∷ 0 ∷ []
-unfolding tables-compute made ha pa root adjacent filled zeros five seven none
+unfolding tables-compute made root adjacent filled zeros five seven none
 faults-target = refl
 
 -- the greatest TTL is free of fault, the next one and the greatest that four octets write are not; a fault before it comes first
@@ -118,7 +113,7 @@ faults-ttl : map faultOf (
     recordOf a6 0 five (slotOf pa) none 0 ∷ recordOf a6 0 five (slotOf pa) none 2147483647 ∷ recordOf a6 0 five (slotOf pa) none 2147483648
     ∷ recordOf a6 0 five (slotOf pa) none 4294967295 ∷ recordOf dname 0 zeros (slotOf ha) (slotOf pa) 2147483648 ∷ recordOf a6 0 five (slotOf pa) (slotOf pa) 2147483648 ∷ [])
     ≡ 0 ∷ 0 ∷ 7 ∷ 7 ∷ 7 ∷ 6 ∷ []
-unfolding tables-compute ha pa zeros five none
+unfolding tables-compute zeros five none
 faults-ttl = refl
 
 -- the high octet of a TTL stands first
@@ -135,13 +130,13 @@ checks : map checkOf (
     [] ∷ good ∷ drop 1 good ∷ (good ++ (0 ∷ [])) ∷ take (recordSize - 1) good ∷ flat (alias ha pa ∷ h64 ∷ alias ha ha ∷ set p0 3 1 ∷ [])
     ∷ flat (set p0 3 1 ∷ alias ha pa ∷ alias ha ha ∷ []) ∷ flat (alias ha pa ∷ h64 ∷ alias ha ha ∷ []) ∷ flat (alias pa pa ∷ alias ha pa ∷ alias pa pa ∷ []) ∷ [])
     ≡ 0 ∷ 0 ∷ 1 ∷ 1 ∷ 1 ∷ 2 ∷ 2 ∷ 3 ∷ 3 ∷ []
-unfolding tables-compute good h64 p0 alias ha pa
+unfolding tables-compute good h64 p0 alias
 checks = refl
 
 -- the owner part: of each kind of record, past the last record, and of a table that earns 3
 parts : ownerPart good 0 ∷ ownerPart good 3 ∷ ownerPart good 5 ∷ ownerPart (flat (alias ha pa ∷ alias ha ha ∷ [])) 0 ∷ []
     ≡ record { offset = 21; length = 5 } ∷ record { offset = 3 * recordSize + 21; length = 5 } ∷ record { offset = 0; length = 0 } ∷ record { offset = 0; length = 0 } ∷ []
-unfolding tables-compute good h64 p0 alias ha pa
+unfolding tables-compute good h64 p0 alias
 parts = refl
 
 -- a label of forty octets that ends in x, so that two such names differ past the first 32 octets of their slots
@@ -150,10 +145,10 @@ long x = 40 ∷ replicate 39 97 ++ (x ∷ 0 ∷ [])
 
 -- marks of slots, and slots that are alike: the same short name is, a long one is not even with itself
 marks : map markOf (slotOf root ∷ slotOf ha ∷ slotOf pa ∷ slotOf (long 1) ∷ slotOf (long 2) ∷ []) ≡ 52373 ∷ 15396 ∷ 37843 ∷ 20288 ∷ 20068 ∷ []
-unfolding markOf slotOf root ha pa long blank
+unfolding markOf slotOf root long blank
 marks = refl
 
 alikes : alikeOf (slotOf ha) (slotOf ha) ∷ alikeOf (slotOf ha) (slotOf pa) ∷ alikeOf (slotOf (long 1)) (slotOf (long 2)) ∷ alikeOf (slotOf (long 1)) (slotOf (long 1)) ∷ []
     ≡ true ∷ false ∷ false ∷ false ∷ []
-unfolding alikeOf slotOf ha pa long blank
+unfolding alikeOf slotOf long blank
 alikes = refl

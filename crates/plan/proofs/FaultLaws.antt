@@ -78,6 +78,10 @@ module _ (r : List ℕ) where
   unfolding isA6
   a6-not h = ne-eqb (typeOf r) a6 h
 
+  pub is-a6 : isA6 r ≡ true → typeOf r ≡ a6
+  unfolding isA6
+  is-a6 h = eqb-true (typeOf r) a6 h
+
   pub dname-is : typeOf r ≡ dname → isDname r ≡ true
   unfolding isDname
   dname-is h = eq-eqb (typeOf r) dname h

@@ -6,7 +6,7 @@ use mathlib.Core.Bool.{Bool, true, false, _&&_, _||_}
 use mathlib.Core.List.{List, [], _∷_}
 use lib.Dec.{ltb, eqb}
 use lib.ListN.{length, getD, take}
-use Rattle.octets.specs.Octets.{same}
+use Rattle.octets.specs.Octets.{sameBy, same}
 use Rattle.plan.specs.Layout.{ownerSlot, isDname, countOf, recordAt}
 use Rattle.plan.specs.Check.{firstFault}
 
@@ -42,7 +42,7 @@ markOf s = (sumOf s / 4096 + sumOf s / 16777216 * 3 + sumOf s) % 65536
 
 -- the first 32 octets of two slots are the same and hold their names whole
 unfoldable pub alikeOf : List ℕ → List ℕ → Bool
-unfolding same
+unfolding sameBy
 alikeOf a b = same (take 32 a) (take 32 b) && ltb (getD a 0 0) 32
 
 -- the mark of the owner's slot of a DNAME; 0 for any other record

@@ -228,23 +228,7 @@ pub fn fill_in(slot: &[u8]) -> usize
     1 + octets::wide(slot[0])
 }
 
-// An A6 record of its fields, the names as slots, at a place of the output.
-pub fn write_a6(
-    prefix: u8,
-    address: [u8; 16],
-    owner: &[u8],
-    target: &[u8],
-    ttl: u32,
-    out: &mut [u8],
-    to: usize,
-)
-    requires { ⌜ (length (now owner) ≡ slotSize) × (length (now target) ≡ slotSize) × (to + recordSize ≤ length (now out)) ⌝ }
-    ensures { λ _. ⌜ now (out .exit) ≡ paste (now (out .entry)) to (recordOf a6 prefix address (now (owner .entry)) (now (target .entry)) ttl) recordSize ⌝ }
-{
-    write_record(A6, prefix, address, owner, target, ttl, out, to);
-}
-
-// A record of any type, of its fields, the names as slots, at a place of the output.
+// A record of its fields, the names as slots, at a place of the output.
 pub fn write_record(
     kind: u16,
     prefix: u8,

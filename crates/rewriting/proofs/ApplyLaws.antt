@@ -8,7 +8,7 @@ use lib.Seq.{length-take-le}
 use native.Mathlib.Omega.{arith}
 use borrow.Author.Tests.{eq-eqb, eqb-true}
 use Rattle.names.specs.Standard.{Unit, label, bit}
-use Rattle.octets.proofs.SameLaws.{same-eq, same-refl}
+use Rattle.octets.proofs.SameLaws.{same-eq, same-refl, by-eq, by-refl}
 use Rattle.rewriting.specs.Rewrite.{sameUnit, sameUnits, Applies, belowOf}
 
 part-refl : (u : Unit) → sameUnit u u ≡ true
@@ -23,21 +23,11 @@ part-eq (label l) (bit c) h = cc
 part-eq (bit b) (label m) h = cc
 part-eq (bit b) (bit c) h = ap bit (eqb-true b c h)
 
-pub units-refl : (us : List Unit) → sameUnits us us ≡ true
-unfolding sameUnits
-units-refl [] = refl
-units-refl (u ∷ us) = rw (part-refl u, sameUnits) (units-refl us)
+units-refl : (us : List Unit) → sameUnits us us ≡ true
+units-refl = by-refl sameUnit part-refl
 
-pub units-eq : (us vs : List Unit) → sameUnits us vs ≡ true → us ≡ vs
-unfolding sameUnits
-units-eq [] [] h = refl
-units-eq [] (v ∷ vs) h = cc
-units-eq (u ∷ us) [] h = cc
-units-eq (u ∷ us) (v ∷ vs) h = go (sameUnit u v) refl (units-eq us vs)
-  where
-    go : (b : Bool) → sameUnit u v ≡ b → (sameUnits us vs ≡ true → us ≡ vs) → u ∷ us ≡ v ∷ vs
-    go true e ih = ap (λ (w : Unit). w ∷ us) (part-eq u v e) ∙ ap (λ (ws : List Unit). v ∷ ws) (ih (rw (sameUnits, e) at h))
-    go false e ih = let z : _≡_ {A = Bool} false true = rw (sameUnits, e) at h in cc
+units-eq : (us vs : List Unit) → sameUnits us vs ≡ true → us ≡ vs
+units-eq = by-eq sameUnit part-eq
 
 drop-front : (below us : List Unit) → drop (length below) (below ++ us) ≡ us
 drop-front [] us = refl

@@ -11,7 +11,7 @@ use native.Mathlib.Omega.{arith}
 use native.Mathlib.Nat.{mod-eq-of-lt}
 use borrow.Author.Tests.{eq-eqb, eqb-true, eqb-false, ltb-true, ltb-false}
 use Rattle.bits.specs.Bits.{bitsOf, unpack}
-use Rattle.octets.specs.Octets.{same}
+use Rattle.octets.specs.Octets.{sameBy, same}
 use Rattle.bits.proofs.BitLaws.{bits-length, bits-split, unpack-zero, unpack-octet}
 use Rattle.bits.proofs.UnpackLaws.{unpack-top}
 use Rattle.octets.proofs.SameLaws.{same-eq, same-refl}
@@ -50,9 +50,9 @@ unpack-first q n (x ∷ xs) h = go (ltb q 8) refl (λ i. unpack-first (q - 8) (n
         ∙ ap (λ (i : ℕ). bitsOf i (x / 2 ^ (8 - i)) ++ unpack (q - 8) xs) (sym m)
 
 same-front : (cs xs ys : List ℕ) → same (cs ++ xs) (cs ++ ys) ≡ same xs ys
-unfolding same
+unfolding sameBy
 same-front [] xs ys = refl
-same-front (c ∷ cs) xs ys = rw (eq-eqb c c refl, same) (same-front cs xs ys)
+same-front (c ∷ cs) xs ys = rw (eq-eqb c c refl, sameBy) (same-front cs xs ys)
 
 same-differ : (cs ds xs ys : List ℕ) → length cs ≡ length ds → (cs ≡ ds → ⊥) → same (cs ++ xs) (ds ++ ys) ≡ false
 same-differ cs ds xs ys l h = go (same (cs ++ xs) (ds ++ ys)) refl
@@ -99,7 +99,7 @@ module _ (a b : List ℕ) (x y n : ℕ) (p : x < length a) (q : y < length b) wh
       (bits-length 8 u ∙ sym (bits-length 8 v)) (bits-differ 8 u v (omega arith) (omega arith) (λ i. e (omega arith))))
 
   octet-last : 0 < n → n < 8 → u < 256 → v < 256 → eqb (u / 2 ^ (8 - n)) (v / 2 ^ (8 - n)) ≡ same (unpack n (drop x a)) (unpack n (drop y b))
-  unfolding same
+  unfolding sameBy
   octet-last g h s t = rw (drop-cons a x 0 p, drop-cons b y 0 q, unpack-last n u (drop (suc x) a) h, unpack-last n v (drop (suc y) b) h) (go (eqb (u / 2 ^ (8 - n)) (v / 2 ^ (8 - n))) refl)
     where
       small : (w : ℕ) → w < 256 → w / 2 ^ (8 - n) < 2 ^ n
@@ -112,7 +112,7 @@ module _ (a b : List ℕ) (x y n : ℕ) (p : x < length a) (q : y < length b) wh
           (bits-differ n (u / 2 ^ (8 - n)) (v / 2 ^ (8 - n)) (small u s) (small v t) (eqb-false (u / 2 ^ (8 - n)) (v / 2 ^ (8 - n)) e)))
 
 none-same : (n : ℕ) (xs ys : List ℕ) → n ≡ 0 → same (unpack n xs) (unpack n ys) ≡ true
-unfolding same
+unfolding sameBy
 none-same n xs ys e = rw (e, unpack-zero xs, unpack-zero ys)
 
 -- on the way through n bits from i and from j on: the `left` bits from x and from y on are the same exactly when all are

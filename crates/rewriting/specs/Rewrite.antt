@@ -5,7 +5,7 @@ use mathlib.Core.Bool.{Bool, true, false, _||_}
 use mathlib.Core.List.{List, [], _∷_, _++_}
 use lib.Dec.{ltb, eqb}
 use lib.ListN.{length, take, drop}
-use Rattle.octets.specs.Octets.{same}
+use Rattle.octets.specs.Octets.{sameBy, same}
 use Rattle.names.specs.Standard.{Unit, label, bit, encode}
 
 -- a rule applies to each name that has units below the owner, `below`, one at least
@@ -20,11 +20,8 @@ sameUnit (label l) (bit c) = false
 sameUnit (bit b) (label m) = false
 sameUnit (bit b) (bit c) = eqb b c
 
-unfoldable pub sameUnits : List Unit → List Unit → Bool
-sameUnits [] [] = true
-sameUnits [] (v ∷ vs) = false
-sameUnits (u ∷ us) [] = false
-sameUnits (u ∷ us) (v ∷ vs) = elim (sameUnit u v) [ true ↦ sameUnits us vs | false ↦ false ]
+abbrev pub sameUnits : List Unit → List Unit → Bool
+sameUnits = sameBy sameUnit
 
 -- how many units of the name are below the owner, counted: 0 where the rule does not apply
 unfoldable pub belowOf : List Unit → List Unit → ℕ

@@ -6,7 +6,7 @@ use mathlib.Core.Bool.{Bool, true, false, _&&_}
 use mathlib.Core.List.{List, [], _∷_, _++_, append-assoc, append-nil}
 use native.Mathlib.Omega.{arith}
 use lib.Dec.{ltb, eqb}
-use lib.ListN.{length, getD, set, take, drop, length-append, length-drop, take-append-drop, List·getD-append}
+use lib.ListN.{length, getD, set, take, drop, length-append, length-drop, length-set, take-append-drop, List·getD-append}
 use lib.Seq.{drop-cons, drop-drop, getD-take, getD-set-same, getD-set-other, take-suc, take-take, take-all, take-append-le, append-snoc, length-take-le, set-at, set-getD, drop-at, paste, take-paste, drop-paste}
 use types.Run.{OneOf}
 use denote.Enum.Declared.{tagOf}
@@ -76,7 +76,7 @@ module _ (out v : List ℕ) (r : ℕ) where
     seeking-left n = record { most = less; enough = let q = s .enough in omega arith; comes = sym (seek-left less out v a b h n) ∙ whole }
 
 -- ---- what stands moved up by a row, one at a time from the last
-pub moved-none : (w c : ℕ) (o : List ℕ) → o ≡ moved w c c o
+moved-none : (w c : ℕ) (o : List ℕ) → o ≡ moved w c c o
 unfolding moved
 moved-none w c o =
     let e : c - c ≡ 0 = omega arith in
@@ -99,7 +99,7 @@ module _ (w j c : ℕ) (o : List ℕ) (n : 0 < w) (h : j < c) (l : c + w ≤ len
       let e : c - j ≡ suc (c - suc j) = omega arith in
       rw (e, drop-cons o j 0 (omega arith)) (append-assoc (take (j + w) o) (getD o j 0 ∷ take (c - suc j) (drop (suc j) o)) (drop (c + w) o))
 
-  pub moved-one : set (moved w (suc j) c o) (j + w) (getD (moved w (suc j) c o) j 0) ≡ moved w j c o
+  moved-one : set (moved w (suc j) c o) (j + w) (getD (moved w (suc j) c o) j 0) ≡ moved w j c o
   moved-one =
       let m : length (take (j + w) o) ≡ j + w = length-take-le (j + w) o (omega arith) in
       let x : getD (take (j + w) o ++ getD o (j + w) 0 ∷ rest) j 0 ≡ getD o j 0 =
@@ -108,6 +108,31 @@ module _ (w j c : ℕ) (o : List ℕ) (n : 0 < w) (h : j < c) (l : c + w ≤ len
       ∙ ap (set (take (j + w) o ++ getD o (j + w) 0 ∷ rest) (j + w)) x
       ∙ set-at (take (j + w) o) (getD o (j + w) 0) rest (getD o j 0) (j + w) m
       ∙ sym moved-here
+
+-- the loop that moves them, at rows of any width: what it keeps
+pub record Moving (w k c : ℕ) (old new : List ℕ) (j : ℕ) : Type 0 where
+  pub low : k ≤ j
+  pub high : j ≤ c
+  pub moves : new ≡ moved w j c old
+  pub long : length new ≡ length old
+
+pub moving-start : (w k c : ℕ) (o : List ℕ) → k ≤ c → Moving w k c o o c
+moving-start w k c o h = record { low = h; high = omega arith; moves = moved-none w c o; long = refl }
+
+module _ {w k c : ℕ} {old new : List ℕ} {j : ℕ} (m : Moving w k c old new j) where
+  pub moving-turn : 0 < w → k < j → c + w ≤ length old → Moving w k c old (set new (j - 1 + w) (getD new (j - 1) 0)) (j - 1)
+  moving-turn n h l =
+      let e : j ≡ suc (j - 1) = omega arith in
+      record {
+        low = omega arith;
+        high = omega (arith, m .high);
+        moves = ap (λ (o : List ℕ). set o (j - 1 + w) (getD o (j - 1) 0)) (m .moves ∙ ap (λ (i : ℕ). moved w i c old) e)
+            ∙ moved-one w (j - 1) c old n (omega (arith, m .high)) l;
+        long = length-set new (j - 1 + w) (getD new (j - 1) 0) ∙ m .long;
+      }
+
+  pub moving-end : j ≤ k → new ≡ moved w k c old
+  moving-end h = let e : j ≡ k = omega (arith, m .low) in m .moves ∙ ap (λ (i : ℕ). moved w i c old) e
 
 -- ---- and the two halves of an address written below them
 module _ (k c : ℕ) (o : List ℕ) (high low : ℕ) (h : k ≤ c) (l : c + 16 ≤ length o) where

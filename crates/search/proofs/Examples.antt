@@ -5,7 +5,7 @@ use mathlib.Core.Bool.{Bool, true, false}
 use mathlib.Core.List.{List, [], _∷_, _++_, map}
 use lib.ListN.{length, getD, drop}
 use Rattle.octets.specs.declared.Answer.{Answer}
-use Rattle.octets.specs.Octets.{blank, same, flat}
+use Rattle.octets.specs.Octets.{blank, sameBy, flat}
 use Rattle.bits.specs.Bits.{unpack, pack, packFrom, bitsOf}
 use Rattle.octets.specs.Answers.{answering, refusal, answerBy, outBy}
 use Rattle.octets.specs.Numbers.{octetsOf}
@@ -67,7 +67,7 @@ record Outcome : Type 0 where
   full : Bool
 
 given : Case → Outcome
-unfolding targetIn lengthIn ttlIn numberOf answerBy outBy lifetimeOf lifetimeIn leastTtl same flat searched run visit keepIn keepAt seek putAt lowered chainsOf chainsFrom paths extend upTo free blank workOf addressesOf gather insert orderOf lastLength spell joinOf spelt speltBit bitAt bits unpack pack addressOf octetsOf
+unfolding targetIn lengthIn ttlIn numberOf answerBy outBy lifetimeOf lifetimeIn leastTtl sameBy flat searched run visit keepIn keepAt seek putAt lowered chainsOf chainsFrom paths extend upTo free blank workOf addressesOf gather insert orderOf lastLength spell joinOf spelt speltBit bitAt bits unpack pack addressOf octetsOf
 given c =
     let g = graphOf (c .table) in
     let s : State = searched g (blank (g .size)) (c .name) 128 (blank 16) maxTtl (c .limit + 1, start (c .size / 16)) in

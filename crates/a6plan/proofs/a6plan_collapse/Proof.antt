@@ -1,7 +1,7 @@
 -- `a6plan::a6plan_collapse` meets its contract: the answer and the output of the operation, reported.
 use lib.ListN.{length}
 use borrow.Author.Needs.{needs}
-use Rattle.a6plan.proofs.ExportLaws.{exported-number, exported-out, exported-figures}
+use Rattle.a6plan.proofs.ExportLaws.{reported}
 use Rattle.a6plan.proofs.a6plan_collapse.Statement.{statement}
 use Rattle.a6plan.proofs.a6plan_collapse.Tie as tie
 
@@ -21,15 +21,8 @@ returns : tie.Need-returns
 returns c =
     let t = c .before .before .before .before .report in
     let d = c .before .before .before .before .before .before .before .before .before in
-    let o = d .collapse in
     let a = d .before .before .before .before .before .before .args in
-    let n = length (a .figures .now) in (
-      exported-number n _ _ _ (o .result) (t .result) (o .ensures .0) (t .ensures .0),
-      (
-        exported-out n _ _ _ (o .result) (t .result) (o .ensures .0) (t .ensures .0) (length (a .out .now)) _ _ _ (o .ensures .1) (o .kept .1 .1 .0) (t .ensures .1 .0),
-        exported-figures n _ _ _ (o .result) (t .result) (o .ensures .0) (t .ensures .0) _ (t .ensures .1 .1),
-      ),
-    )
+    reported (length (a .figures .now)) _ _ _ (length (a .out .now)) _ _ _ _ _ _ (d .collapse .ensures) (d .collapse .kept .1 .1 .0) (t .ensures)
 
 pub a6plan-collapse-spec : {M : Type 1} → statement M
 a6plan-collapse-spec = tie.close (tie.spec collapse-requires report-requires same-length same-length-2 returns)

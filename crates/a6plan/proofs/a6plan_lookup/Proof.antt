@@ -1,7 +1,7 @@
 -- `a6plan::a6plan_lookup` meets its contract: the answer and both lists of the operation, reported.
 use lib.ListN.{length}
 use borrow.Author.Needs.{needs}
-use Rattle.a6plan.proofs.ExportLaws.{exported-number, exported-out, exported-figures}
+use Rattle.a6plan.proofs.ExportLaws.{exported-out, reported}
 use Rattle.a6plan.proofs.a6plan_lookup.Statement.{statement}
 use Rattle.a6plan.proofs.a6plan_lookup.Tie as tie
 
@@ -30,16 +30,10 @@ returns c =
     let d = k .before .before .before .before .before .before in
     let o = d .lookup in
     let a = d .before .before .before .before .before .before .before .before .args in
-    let n = length (a .figures .now) in (
-      exported-number n _ _ _ (o .result) (t .result) (o .ensures .0) (t .ensures .0),
-      (
-        exported-out n _ _ _ (o .result) (t .result) (o .ensures .0) (t .ensures .0) (length (a .out .now)) _ _ _ (o .ensures .1 .0) (o .kept .1 .1 .1 .0) (t .ensures .1 .0),
-        (
-          exported-out n _ _ _ (o .result) (t .result) (o .ensures .0) (t .ensures .0) (length (a .ttls .now)) _ _ _ (o .ensures .1 .1) (o .kept .1 .1 .1 .1 .0) (k .keep-numbers .ensures),
-          exported-figures n _ _ _ (o .result) (t .result) (o .ensures .0) (t .ensures .0) _ (t .ensures .1 .1),
-        ),
-      ),
-    )
+    let n = length (a .figures .now) in
+    let m = reported n _ _ _ (length (a .out .now)) _ _ _ _ _ _ (o .ensures .0, o .ensures .1 .0) (o .kept .1 .1 .1 .0) (t .ensures) in
+    let l = exported-out n _ _ _ (o .result) (t .result) (o .ensures .0) (t .ensures .0) (length (a .ttls .now)) _ _ _ (o .ensures .1 .1) (o .kept .1 .1 .1 .1 .0) (k .keep-numbers .ensures) in
+    (m .0, (m .1 .0, (l, m .1 .1)))
 
 pub a6plan-lookup-spec : {M : Type 1} → statement M
 a6plan-lookup-spec = tie.close (tie.spec lookup-requires keep-numbers-requires report-requires same-length same-length-2 same-length-3 returns)

@@ -1,20 +1,17 @@
 -- `collapse::collapse` meets its contract: 1 to 5 in front, the name put in standard form, and what that form gives.
-use Prim.Native.Nat.{ℕ, _≤_}
+use Prim.Native.Nat.{ℕ}
 use mathlib.Core.Path.{_≡_, sym, ap, _∙_}
-use mathlib.Core.Bool.{true}
 use mathlib.Core.List.{List}
 use native.Mathlib.Omega.{arith}
-use lib.ListN.{length, take}
+use lib.ListN.{length}
 use lib.Seq.{length-take-le}
 use borrow.Author.Needs.{needs}
 use Rattle.octets.specs.Octets.{Small}
 use Rattle.octets.proofs.AnswerLaws.{not-nought, refused-answer, refused-out}
-use Rattle.labels.specs.Scan.{wellFormed}
 use Rattle.names.specs.Standard.{standardOf}
-use Rattle.names.proofs.NameLaws.{held-part, held-standard}
 use Rattle.names.proofs.RoundLaws.{standard-formed, same-standard}
-use Rattle.plan.specs.Check.{entryNumber, InOrder}
-use Rattle.plan.proofs.EntryLaws.{entry-zero}
+use Rattle.plan.specs.declared.inside.Entered.{Entered}
+use Rattle.plan.proofs.EntryLaws.{Enters, enters}
 use Rattle.collapse.specs.Collapse.{numberOf, collapseAnswer, collapseOut}
 use Rattle.collapse.proofs.CollapseLaws.{number-entry, number-output, answer-same, out-same}
 use Rattle.collapse.proofs.collapse.Statement.{statement}
@@ -39,24 +36,11 @@ size c = length (begun c .args .out .now)
 small : (c : Taken) → Small (name c)
 small c i = omega (arith, c .before .before .before .before .before .shared-slice-known2 .given i)
 
-earned : (c : Taken) → c .before .before .before .enter .result .number ≡ entryNumber (table c) (name c)
-earned c = c .before .before .before .enter .ensures .0
+abbrev entry : Taken → Entered
+entry c = c .before .before .before .enter .result
 
-abbrev octets : Taken → List ℕ
-octets c = c .before .before .before .enter .result .name .octets
-
-fits : (c : Taken) → c .wide .result ≤ length (octets c)
-fits c = let l : length (octets c) ≡ 255 = search needs in omega (arith, c .wide .ensures .1)
-
-part : (c : Taken) → wellFormed (name c) ≡ true → take (c .wide .result) (octets c) ≡ standardOf (name c)
-part c w = let h = c .before .before .before .enter in held-part (name c) (h .result .name) (c .wide .result) (h .ensures .1) (c .wide .ensures .0) w
-
--- ---- where neither is refused
-entered : (c : tie.Else1) → entryNumber (table (c .before)) (name (c .before)) ≡ 0
-entered c = sym (earned (c .before)) ∙ c .if1 .left
-
-sound : (c : tie.Else1) → InOrder (table (c .before)) × (wellFormed (name (c .before)) ≡ true)
-sound c = entry-zero (table (c .before)) (name (c .before)) (entered c)
+held : (c : Taken) → Enters (table c) (name c) (entry c) (c .wide .result)
+held c = let l : length (entry c .name .octets) ≡ 255 = search needs in enters _ _ (entry c) _ l (c .before .before .before .enter .ensures) (c .wide .ensures)
 
 -- ---- what it owes
 enter-requires : tie.Need-enter-requires
@@ -76,8 +60,9 @@ returns c =
     let r = c .before .before in
     let t = r .before .before in
     let k = t .before in
-    let n = k .before .before .before .enter .result .number in
-    let e : n ≡ numberOf (table k) (name k) (size k) = earned k ∙ sym (number-entry (table k) (name k) (size k) (λ h. t .if1 .taken (earned k ∙ h))) in
+    let n = entry k .number in
+    let f = held k .earned in
+    let e : n ≡ numberOf (table k) (name k) (size k) = f ∙ sym (number-entry (table k) (name k) (size k) (λ h. t .if1 .taken (f ∙ h))) in
     (r .refuse .ensures .0 ∙ refused-answer n _ e (t .if1 .taken) _ 0, r .refuse .ensures .1 ∙ refused-out n _ e (t .if1 .taken) _ (size k))
 
 refuse-requires-2 : tie.Need-refuse-requires-2
@@ -91,21 +76,21 @@ returns-2 c =
     let r = c .before .before in
     let t = r .before .before in
     let k = t .before .before in
-    let e = sym (number-output (table k) (name k) (size k) (entered (t .before)) (t .if2 .taken)) in
+    let e = sym (number-output (table k) (name k) (size k) (sym (held k .earned) ∙ t .before .if1 .left) (t .if2 .taken)) in
     (r .refuse2 .ensures .0 ∙ refused-answer 5 _ e (not-nought 4) _ 0, r .refuse2 .ensures .1 ∙ refused-out 5 _ e (not-nought 4) _ (size k))
 
 array-share-prefix-standard : tie.Need-array-share-prefix-standard
-array-share-prefix-standard c = fits (c .before .before)
+array-share-prefix-standard c = held (c .before .before) .fits
 
 slice-aggregate-fold : tie.Need-slice-aggregate-fold
-slice-aggregate-fold c = let k = c .before .before .before in sym (length-take-le (k .wide .result) (octets k) (fits k))
+slice-aggregate-fold c = let k = c .before .before .before in sym (length-take-le (k .wide .result) (entry k .name .octets) (held k .fits))
 
 fold-requires : tie.Need-fold-requires
 fold-requires c κs =
     let o = c .before .before in
     let k = o .before .before in
-    let w = sound (o .before) .1 in
-    (sound (o .before) .0, rw (part k w) (held-standard (name k) (small k) w), o .if2 .left)
+    let z = o .before .if1 .left in
+    (held k .sound z .0, held k .standing (small k) z, o .if2 .left)
 
 same-length-3 : tie.Need-same-length-3
 same-length-3 c = search needs
@@ -115,12 +100,14 @@ returns-3 c =
     let f = c .before .before in
     let o = f .before .before .before in
     let k = o .before .before in
-    let w = sound (o .before) .1 in
+    let z = o .before .if1 .left in
+    let w = held k .sound z .1 in
+    let p = held k .part z in
     let x = name k in
     let g = same-standard x (small k) w in
     let m = standard-formed x (small k) w ∙ sym w in (
-      f .fold .ensures .0 ∙ ap (λ (y : List ℕ). collapseAnswer (table k) y (size k)) (part k w) ∙ answer-same (table k) (standardOf x) x (size k) g m,
-      f .fold .ensures .1 ∙ ap (λ (y : List ℕ). collapseOut (table k) y (size k)) (part k w) ∙ out-same (table k) (standardOf x) x (size k) g m,
+      f .fold .ensures .0 ∙ ap (λ (y : List ℕ). collapseAnswer (table k) y (size k)) p ∙ answer-same (table k) (standardOf x) x (size k) g m,
+      f .fold .ensures .1 ∙ ap (λ (y : List ℕ). collapseOut (table k) y (size k)) p ∙ out-same (table k) (standardOf x) x (size k) g m,
     )
 
 pub collapse-spec : {M : Type 1} → statement M

@@ -35,11 +35,11 @@ target-slot-requires c κs = search needs
 prefix-requires : tie.Need-prefix-requires
 prefix-requires c κs = search needs
 
-mul-write-a6 : tie.Need-mul-write-a6
-mul-write-a6 c = search needs
+mul-write-record : tie.Need-mul-write-record
+mul-write-record c = search needs
 
-write-a6-requires : tie.Need-write-a6-requires
-write-a6-requires c κs = search needs
+write-record-requires : tie.Need-write-record-requires
+write-record-requires c κs = search needs
 
 same-length : tie.Need-same-length
 same-length c = search needs
@@ -58,7 +58,7 @@ returns c =
     joined-is r q _ _ _ _ _ (prefixed .prefix .ensures) (addressed .joined-address .ensures) (owner .owner-slot .ensures .0 ∙ ap ownerSlot (owner .before .row .ensures .0))
     (target .target-slot .ensures .0 ∙ ap targetSlot (target .before .row2 .ensures .0)) (lived .joined-ttl .ensures)
     in
-    c .before .before .write-a6 .ensures ∙ ap (λ (s : List ℕ). paste (a .out .now) (a .n * recordSize) s recordSize) e
+    c .before .before .write-record .ensures ∙ ap (λ (s : List ℕ). paste (a .out .now) (a .n * recordSize) s recordSize) e
     ∙ sym (stored-in (a .out .now) (a .n) (joinedOf r q) (addressed .before .if1 .taken))
 
 returns-2 : tie.Need-returns-2
@@ -77,8 +77,8 @@ put-joined-spec =
     row-requires-2
     target-slot-requires
     prefix-requires
-    mul-write-a6
-    write-a6-requires
+    mul-write-record
+    write-record-requires
     same-length
     returns
     returns-2)

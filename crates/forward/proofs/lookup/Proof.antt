@@ -1,19 +1,16 @@
 -- `forward::lookup` meets its contract: each refusal is one law, and the search of the standard form answers for the name.
-use Prim.Native.Nat.{ℕ, _≤_}
+use Prim.Native.Nat.{ℕ}
 use mathlib.Core.Path.{_≡_, ap, _∙_, sym}
-use mathlib.Core.Bool.{true, false}
+use mathlib.Core.Bool.{false}
 use mathlib.Core.List.{List}
-use lib.ListN.{length, take}
+use lib.ListN.{length}
 use lib.Seq.{length-take-le}
 use native.Mathlib.Omega.{arith}
 use borrow.Author.Needs.{needs}
 use Rattle.octets.specs.Octets.{blank, Small}
 use Rattle.octets.proofs.AnswerLaws.{not-nought, refused-answer, refused-out}
-use Rattle.labels.specs.Scan.{wellFormed}
-use Rattle.names.specs.Standard.{standardOf}
-use Rattle.names.proofs.NameLaws.{held-part, held-standard}
-use Rattle.plan.specs.Check.{entryNumber, InOrder}
-use Rattle.plan.proofs.EntryLaws.{entry-zero}
+use Rattle.plan.specs.declared.inside.Entered.{Entered}
+use Rattle.plan.proofs.EntryLaws.{Enters, enters}
 use Rattle.forward.specs.Lookup.{misfit, lookupNumber}
 use Rattle.forward.proofs.LookupLaws.{lookup-entry, lookup-misfit, lookup-answered, lookup-written, lookup-lasting, misfit-not}
 use Rattle.forward.proofs.lookup.Statement.{statement}
@@ -64,17 +61,11 @@ blanked c =
     record { zeros = o .ensures; long = o .kept .0; noughts = l .ensures; lasting = l .kept .0 }
 
 -- what both earned, and the name that is held
-earned : (c : Taken) → c .before .before .before .enter .result .number ≡ entryNumber (table c) (name c)
-earned c = c .before .before .before .enter .ensures .0
+abbrev entry : Taken → Entered
+entry c = c .before .before .before .enter .result
 
-abbrev octets : Taken → List ℕ
-octets c = c .before .before .before .enter .result .name .octets
-
-fits : (c : Taken) → c .wide .result ≤ length (octets c)
-fits c = let l : length (octets c) ≡ 255 = search needs in omega (arith, c .wide .ensures .1)
-
-part : (c : Taken) → wellFormed (name c) ≡ true → take (c .wide .result) (octets c) ≡ standardOf (name c)
-part c w = let h = c .before .before .before .enter in held-part (name c) (h .result .name) (c .wide .result) (h .ensures .1) (c .wide .ensures .0) w
+held : (c : Taken) → Enters (table c) (name c) (entry c) (c .wide .result)
+held c = let l : length (entry c .name .octets) ≡ 255 = search needs in enters _ _ (entry c) _ l (c .before .before .before .enter .ensures) (c .wide .ensures)
 
 -- ---- where the tests are passed: the table is in order, the name well formed, and both lists fit
 abbrev Passed : Type 0
@@ -83,8 +74,8 @@ Passed = tie.Else2
 abbrev taken : Passed → Taken
 taken c = c .before .before .before
 
-sound : (c : Passed) → InOrder (table (taken c)) × (wellFormed (name (taken c)) ≡ true)
-sound c = entry-zero (table (taken c)) (name (taken c)) (sym (earned (taken c)) ∙ c .before .before .if1 .left)
+accepted : (c : Passed) → entry (taken c) .number ≡ 0
+accepted c = c .before .before .if1 .left
 
 misfit-is : (c : tie.After-is-misfit) → c .is-misfit .result ≡ misfit (size (c .before .before)) (room (c .before .before))
 misfit-is c = let b = blanked (c .before .before) in c .is-misfit .ensures ∙ λ i. misfit (b .long i) (b .lasting i)
@@ -118,8 +109,9 @@ returns : tie.Need-returns
 returns c =
     let k = c .before .before in
     let t = c .before .if1 .taken in
-    let n = k .before .before .before .enter .result .number in
-    let e : n ≡ number k = earned k ∙ sym (lookup-entry (table k) (name k) (begun k .args .limit) (size k) (room k) (λ h. t (earned k ∙ h))) in
+    let n = entry k .number in
+    let f = held k .earned in
+    let e : n ≡ number k = f ∙ sym (lookup-entry (table k) (name k) (begun k .args .limit) (size k) (room k) (λ h. t (f ∙ h))) in
     (c .refused .ensures ∙ refused-answer n _ e t _ _, (blanked k .zeros ∙ refused-out n _ e t _ (size k), blanked k .noughts ∙ refused-out n _ e t _ (room k)))
 
 is-misfit-requires : tie.Need-is-misfit-requires
@@ -138,24 +130,23 @@ returns-2 : tie.Need-returns-2
 returns-2 c =
     let m = c .before .before in
     let k = m .before .before in
-    let o = sym (earned k) ∙ m .before .if1 .left in
+    let o = sym (held k .earned) ∙ m .before .if1 .left in
     let e = sym (lookup-misfit (table k) (name k) (begun k .args .limit) (size k) (room k) o (sym (misfit-is m) ∙ c .before .if2 .taken)) in
     (c .refused2 .ensures ∙ refused-answer 5 _ e (not-nought 4) _ _, (blanked k .zeros ∙ refused-out 5 _ e (not-nought 4) _ (size k), blanked k .noughts ∙ refused-out 5 _ e (not-nought 4) _ (room k)))
 
 array-share-prefix-octets : tie.Need-array-share-prefix-octets
-array-share-prefix-octets c = fits (taken c)
+array-share-prefix-octets c = held (taken c) .fits
 
 slice-aggregate-look : tie.Need-slice-aggregate-look
-slice-aggregate-look c = let k = taken (c .before) in sym (length-take-le (k .wide .result) (octets k) (fits k))
+slice-aggregate-look c = let k = taken (c .before) in sym (length-take-le (k .wide .result) (entry k .name .octets) (held k .fits))
 
 look-requires : tie.Need-look-requires
 look-requires c κs =
     let p = c .before .before .before in
     let k = taken p in
     let b = blanked k in
-    let w = sound p .1 in
     let f = misfit-not (size k) (room k) (fitting p) in (
-      (sound p .0, rw (part k w) (held-standard (name k) (small k) w)),
+      (held k .sound (accepted p) .0, held k .standing (small k) (accepted p)),
       (omega (arith, f, b .long), b .zeros ∙ ap blank (sym (b .long)), omega (arith, f, b .long, b .lasting), b .noughts ∙ ap blank (sym (b .lasting))),
     )
 
@@ -171,9 +162,9 @@ returns-3 c =
     let p = l .before .before .before .before in
     let k = taken p in
     let a = begun k .args in
-    let o = sym (earned k) ∙ p .before .before .if1 .left in
+    let o = sym (held k .earned) ∙ accepted p in
     let n = misfit-not (size k) (room k) (fitting p) .1 in
-    let e = rw (part k (sound p .1), blanked k .long) at (l .look .ensures) in (
+    let e = rw (held k .part (accepted p), blanked k .long) at (l .look .ensures) in (
       e .0 ∙ lookup-answered (table k) (name k) (a .limit) (size k) (room k) o (small k) (fitting p) n,
       (
         e .1 .0 ∙ lookup-written (table k) (name k) (a .limit) (size k) (room k) o (small k) (fitting p) n,

@@ -44,7 +44,11 @@ bits c =
 
 -- a label with a fault is broken
 breaks : (c : tie.Start) {r : Step} (n : ℕ) → r ≡ broken (suc n) → faultOf (c .args .at) (c .args .run) (rest c) ≡ suc n → r ≡ stepOf (c .args .at) (c .args .run) (rest c)
-breaks c n e f = e ∙ sym (step-broken (c .args .at) (c .args .run) (rest c) n f)
+breaks c n e f = step-broken (c .args .at) (c .args .run) (rest c) n e f
+
+-- so is one that goes on beyond the octets
+beyond : (c : tie.Start) {r : Step} → r ≡ broken 11 → length (rest c) < sizeOf (rest c) → r ≡ stepOf (c .args .at) (c .args .run) (rest c)
+beyond c e h = let b = bits c in breaks c 10 e (fault-beyond (c .args .at) (c .args .run) (rest c) (b .some) (b .kind) h)
 
 count-is : (c : tie.After-count) → countOf (rest (begun c)) ≡ c .count .result
 count-is c = count-at (begun c .args .s .now) (begun c .args .at) ∙ sym (c .count .ensures .0)
@@ -84,10 +88,7 @@ broken-label-requires : tie.Need-broken-label-requires
 broken-label-requires c κs = search needs
 
 returns : tie.Need-returns
-returns c =
-    let s = c .before .before .before in
-    let b = bits s in
-    breaks s 10 (c .broken-label .ensures) (fault-beyond (s .args .at) (s .args .run) (rest s) (b .some) (b .kind) (omega arith))
+returns c = let s = c .before .before .before in beyond s (c .broken-label .ensures) (omega (arith, bits s))
 
 shared-slice-read-count : tie.Need-shared-slice-read-count
 shared-slice-read-count c = search needs
@@ -109,11 +110,8 @@ broken-label-requires-2 c κs = search needs
 
 returns-2 : tie.Need-returns-2
 returns-2 c =
-    let k = c .before .before in
-    let s = begun k in
-    let b = bits s in
-    let q = count-is k in
-    breaks s 10 (c .broken-label2 .ensures) (fault-beyond (s .args .at) (s .args .run) (rest s) (b .some) (b .kind) (omega arith))
+    let s = begun (c .before .before) in
+    beyond s (c .broken-label2 .ensures) (omega (arith, bits s, count-is (c .before .before)))
 
 broken-label-requires-3 : tie.Need-broken-label-requires-3
 broken-label-requires-3 c κs = search needs

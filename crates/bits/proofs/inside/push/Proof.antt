@@ -1,11 +1,41 @@
 -- `bits::inside::push` meets its contract.
-use Prim.Native.Nat.{_-_}
-use mathlib.Core.Path.{_∙_}
+use Prim.Native.Nat.{ℕ, _+_, _-_, _*_, _/_, _%_, _^_, _≤_, _<_}
+use mathlib.Core.Path.{_≡_, _∙_}
 use native.Mathlib.Omega.{arith}
 use Rattle.bits.proofs.PackLaws.{shifted, part-small, full-value, part-done, full-done}
 use borrow.Author.Needs.{needs}
 use Rattle.bits.proofs.inside.push.Statement.{statement}
 use Rattle.bits.proofs.inside.push.Tie as tie
+
+-- ---- what is known at its places: `tie.After-wide` where the bits leave the octet unfilled, `tie.After-wide2` where they fill it
+abbrev begun : tie.After-wide → tie.Start
+begun c = c .before .before .before
+
+abbrev filled : tie.After-wide2 → tie.Start
+filled c = c .before .before .before
+
+-- the bits shifted up by k fit in a word
+shift : (c : tie.Start) (k : ℕ) → k ≤ 8 → (c .args .p .value * 2 ^ k) % 2 ^ 64 ≡ c .args .p .value * 2 ^ k
+shift c k h = shifted (c .args .p .have) k (c .args .p .value) (c .pre .0 .have) h (c .pre .0 .value)
+
+-- the new bits after them, in the figures of the code
+joined : (c : tie.After-wide) → let a = begun c .args in (a .p .value * 2 ^ a .m) % 2 ^ 64 + c .wide .result ≡ a .p .value * 2 ^ a .m + a .x
+joined c = omega (arith, shift (begun c) (begun c .args .m) (begun c .pre .1 .0), c .wide .ensures .0)
+
+-- the octet that is filled
+abbrev octet : tie.Start → ℕ
+octet c = c .args .p .value * 2 ^ (8 - c .args .p .have) + c .args .x / 2 ^ (c .args .p .have + c .args .m - 8)
+
+octet-small : (c : tie.After-wide2) → octet (filled c) < 256
+octet-small c =
+    let s = filled c in
+    full-value (s .args .p .have) (s .args .m) (s .args .p .value) (s .args .x) (s .pre .0 .have) (s .pre .1 .0) (omega arith) (s .pre .0 .value) (s .pre .1 .1)
+
+-- and in the figures of the code
+octet-is : (c : tie.After-wide2) → let p = filled c .args .p in (p .value * 2 ^ (8 - p .have)) % 2 ^ 64 + c .wide2 .result ≡ octet (filled c)
+octet-is c = omega (arith, shift (filled c) (8 - filled c .args .p .have) (omega arith), c .wide2 .ensures .0)
+
+-- ---- and what it owes
 
 add-total : tie.Need-add-total
 add-total c = search needs
@@ -18,19 +48,15 @@ wide-requires c κs = search needs
 
 add-t13 : tie.Need-add-t13
 add-t13 c =
-    let a = c .before .before .before .args in
-    let r = c .before .before .before .pre .0 in
-    let z = c .before .before .before .pre .1 in
-    let sh = shifted (a .p .have) (a .m) (a .p .value) (r .have) (z .0) (r .value) in
-    omega (arith, sh, part-small (a .p .have) (a .m) (a .p .value) (a .x) (omega arith) (r .value) (z .1), c .wide .ensures .0)
+    let a = begun c .args in
+    let p = begun c .pre in
+    omega (arith, joined c, part-small (a .p .have) (a .m) (a .p .value) (a .x) (omega arith) (p .0 .value) (p .1 .1))
 
 returns : tie.Need-returns
 returns c =
-    let a = c .before .before .before .args in
-    let r = c .before .before .before .pre .0 in
-    let z = c .before .before .before .pre .1 in
-    let sh = shifted (a .p .have) (a .m) (a .p .value) (r .have) (z .0) (r .value) in
-    part-done (a .out .now) (a .p) (a .m) (a .x) _ r (omega arith) (z .1) (omega (arith, sh, c .wide .ensures .0))
+    let a = begun c .args in
+    let p = begun c .pre in
+    part-done (a .out .now) (a .p) (a .m) (a .x) _ (p .0) (omega arith) (p .1 .1) (joined c)
 
 sub-out : tie.Need-sub-out
 sub-out c = search needs
@@ -48,20 +74,10 @@ wide-requires-2 : tie.Need-wide-requires-2
 wide-requires-2 c κs = search needs
 
 add-out : tie.Need-add-out
-add-out c =
-    let a = c .before .before .before .args in
-    let r = c .before .before .before .pre .0 in
-    let z = c .before .before .before .pre .1 in
-    let sh = shifted (a .p .have) (8 - a .p .have) (a .p .value) (r .have) (omega arith) (r .value) in
-    omega (arith, sh, full-value (a .p .have) (a .m) (a .p .value) (a .x) (r .have) (z .0) (omega arith) (r .value) (z .1), c .wide2 .ensures .0)
+add-out c = omega (arith, octet-is c, octet-small c)
 
 cast-out : tie.Need-cast-out
-cast-out c =
-    let a = c .before .before .before .args in
-    let r = c .before .before .before .pre .0 in
-    let z = c .before .before .before .pre .1 in
-    let sh = shifted (a .p .have) (8 - a .p .have) (a .p .value) (r .have) (omega arith) (r .value) in
-    omega (arith, sh, full-value (a .p .have) (a .m) (a .p .value) (a .x) (r .have) (z .0) (omega arith) (r .value) (z .1), c .wide2 .ensures .0)
+cast-out c = omega (arith, octet-is c, octet-small c)
 
 slice-write-out : tie.Need-slice-write-out
 slice-write-out c = search needs
@@ -80,11 +96,10 @@ same-length c = search needs
 
 returns-2 : tie.Need-returns-2
 returns-2 c =
-    let a = c .before .before .before .before .before .args in
-    let r = c .before .before .before .before .before .pre .0 in
-    let z = c .before .before .before .before .before .pre .1 in
-    let sh = shifted (a .p .have) (8 - a .p .have) (a .p .value) (r .have) (omega arith) (r .value) in
-    full-done (a .out .now) (a .p) (a .m) (a .x) _ _ r (z .0) (omega arith) (z .1) (omega (arith, sh, c .before .before .wide2 .ensures .0)) (c .wide3 .ensures .0 ∙ c .before .low .ensures)
+    let w = c .before .before in
+    let a = filled w .args in
+    let p = filled w .pre in
+    full-done (a .out .now) (a .p) (a .m) (a .x) _ _ (p .0) (p .1 .0) (omega arith) (p .1 .1) (octet-is w) (c .wide3 .ensures .0 ∙ c .before .low .ensures)
 
 pub push-spec : {M : Type 1} → statement M
 push-spec =

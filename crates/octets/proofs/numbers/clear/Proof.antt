@@ -1,24 +1,18 @@
 -- `octets::numbers::clear` meets its contract.
-use Prim.Native.Nat.{_-_, _≤_}
-use mathlib.Core.Path.{_≡_, refl}
-use mathlib.Core.List.{_++_, append-nil}
-use lib.ListN.{length, drop, length-set}
-use lib.Seq.{drop-length}
+use Prim.Native.Nat.{_-_}
 use native.Mathlib.Omega.{arith}
-use Rattle.octets.specs.Octets.{blank}
-use Rattle.octets.proofs.OctetLaws.{blank-more}
+use Rattle.octets.proofs.OctetLaws.{Clearing, clearing-start, clearing-turn, clearing-end}
 use Rattle.octets.proofs.numbers.clear.Statement.{statement}
 use Rattle.octets.proofs.numbers.clear.Tie as tie
 
 abbrev Inv-loop : tie.InvT-loop
-Inv-loop list₀ n i₀ list i = (i ≤ n) × (n ≡ length list₀) × (length list ≡ length list₀) × (list ≡ blank i ++ drop i list₀)
+Inv-loop list₀ n i₀ list i = Clearing list₀ list n i
 
 abbrev μ-loop : tie.MeasureT-loop
 μ-loop list₀ n i₀ list i = n - i
 
 loop-holds : tie.Need-loop-holds Inv-loop μ-loop
-unfolding blank
-loop-holds c = (omega arith, refl, refl, refl)
+loop-holds c = clearing-start (c .args .list .now)
 
 mul-list : tie.Need-mul-list Inv-loop μ-loop
 mul-list c = omega arith
@@ -33,18 +27,13 @@ loop-less : tie.Need-loop-less Inv-loop μ-loop
 loop-less c = omega arith
 
 loop-again : tie.Need-loop-again Inv-loop μ-loop
-loop-again c =
-    let at = c .before .loop in
-    (omega arith, refl, simp length-set (at .inv .2), rw (at .inv .3) (blank-more (c .before .before .args .list .now) (at .i) (omega arith)))
+loop-again c = clearing-turn (c .before .loop .inv) (omega arith)
 
 same-length : tie.Need-same-length Inv-loop μ-loop
-same-length c = c .before .loop .inv .2
+same-length c = c .before .loop .inv .long
 
 returns : tie.Need-returns Inv-loop μ-loop
-returns c =
-    let at = c .before .loop in
-    let e : at .i ≡ length (c .before .before .args .list .now) = omega arith in
-    rw (at .inv .3, e, drop-length) (append-nil _)
+returns c = clearing-end (c .before .loop .inv) (omega arith)
 
 pub clear-spec : {M : Type 1} → statement M
 clear-spec =

@@ -40,10 +40,7 @@ pair-requires-2 : tie.Need-pair-requires-2
 pair-requires-2 c κs = search needs
 
 returns : tie.Need-returns
-returns c =
-    let k = c .before in
-    let a = begun-1 k .args in
-    sym (alike-off (a .a .now) (a .b .now) 0 (omega arith) (λ h. c .if1 .taken (k .before .pair .ensures ∙ h ∙ sym (k .pair2 .ensures))))
+returns c = sym (alike-off _ _ 0 _ _ (omega arith) (c .before .before .pair .ensures) (c .before .pair2 .ensures) (c .if1 .taken))
 
 pair-requires-3 : tie.Need-pair-requires-3
 pair-requires-3 c κs = search needs
@@ -52,10 +49,7 @@ pair-requires-4 : tie.Need-pair-requires-4
 pair-requires-4 c κs = search needs
 
 returns-2 : tie.Need-returns-2
-returns-2 c =
-    let k = c .before in
-    let a = begun-2 k .args in
-    sym (alike-off (a .a .now) (a .b .now) 8 (omega arith) (λ h. c .if2 .taken (k .before .pair3 .ensures ∙ h ∙ sym (k .pair4 .ensures))))
+returns-2 c = sym (alike-off _ _ 8 _ _ (omega arith) (c .before .before .pair3 .ensures) (c .before .pair4 .ensures) (c .if2 .taken))
 
 pair-requires-5 : tie.Need-pair-requires-5
 pair-requires-5 c κs = search needs
@@ -64,10 +58,7 @@ pair-requires-6 : tie.Need-pair-requires-6
 pair-requires-6 c κs = search needs
 
 returns-3 : tie.Need-returns-3
-returns-3 c =
-    let k = c .before in
-    let a = begun-3 k .args in
-    sym (alike-off (a .a .now) (a .b .now) 16 (omega arith) (λ h. c .if3 .taken (k .before .pair5 .ensures ∙ h ∙ sym (k .pair6 .ensures))))
+returns-3 c = sym (alike-off _ _ 16 _ _ (omega arith) (c .before .before .pair5 .ensures) (c .before .pair6 .ensures) (c .if3 .taken))
 
 pair-requires-7 : tie.Need-pair-requires-7
 pair-requires-7 c κs = search needs
@@ -76,10 +67,7 @@ pair-requires-8 : tie.Need-pair-requires-8
 pair-requires-8 c κs = search needs
 
 returns-4 : tie.Need-returns-4
-returns-4 c =
-    let k = c .before in
-    let a = begun-4 k .args in
-    sym (alike-off (a .a .now) (a .b .now) 24 (omega arith) (λ h. c .if4 .taken (k .before .pair7 .ensures ∙ h ∙ sym (k .pair8 .ensures))))
+returns-4 c = sym (alike-off _ _ 24 _ _ (omega arith) (c .before .before .pair7 .ensures) (c .before .pair8 .ensures) (c .if4 .taken))
 
 shared-slice-read-result : tie.Need-shared-slice-read-result
 shared-slice-read-result c = search needs
