@@ -47,7 +47,7 @@ pub pack-of-bits : (a : List ℕ) → length a ≡ 16 → Small a → pack (bits
 unfolding bits pack
 pack-of-bits a e s = pack-unpack 128 a s e (mod-one (getD a 15 0))
 
-pub address-ext : (a b : List ℕ) → length a ≡ 16 → length b ≡ 16 → Small a → Small b → bits a ≡ bits b → a ≡ b
+address-ext : (a b : List ℕ) → length a ≡ 16 → length b ≡ 16 → Small a → Small b → bits a ≡ bits b → a ≡ b
 address-ext a b e f s t h = sym (pack-of-bits a e s) ∙ ap pack h ∙ pack-of-bits b f t
 
 pub bit-ext : (a b : List ℕ) → length a ≡ 16 → length b ≡ 16 → Small a → Small b → ((i : ℕ) → i < 128 → bitAt a i ≡ bitAt b i) → a ≡ b

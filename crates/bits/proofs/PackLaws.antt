@@ -148,7 +148,7 @@ level-push old new next p q r xs ys zs bs l h e rest =
     ∙ ap (λ (ws : List ℕ). take (q .to) new ++ packFrom (q .have) (q .value) ws) (sym (append-assoc bs zs rest) ∙ ap (λ (ws : List ℕ). ws ++ rest) (sym e))
     ∙ l rest
 
-pub level-done : (old new : List ℕ) (p q : Packer) (xs : List ℕ) (n : ℕ) → Level old new p q xs [] → Ready new q n → q .to * 8 + q .have ≡ p .to * 8 + p .have + length xs → Pushed old new p q xs
+level-done : (old new : List ℕ) (p q : Packer) (xs : List ℕ) (n : ℕ) → Level old new p q xs [] → Ready new q n → q .to * 8 + q .have ≡ p .to * 8 + p .have + length xs → Pushed old new p q xs
 level-done old new p q xs n l r e = record { adds = l; clean = r .clean; have = r .have; value = r .value; place = e }
 
 pub ready-after : (old new : List ℕ) (p q : Packer) (bs : List ℕ) (n : ℕ) → Pushed old new p q bs → length new ≡ length old → Ready old p (length bs + n) → Ready new q n

@@ -93,7 +93,7 @@ module _ {N : Type 0} (g : Graph N) where
     spelt-end i p h e = spelt-join i p h ∙ ap (joinOf (spelt g p) (g .addr i)) e ∙ join-zero (spelt g p) (g .addr i) (sound .sixteen i h) (sound .small i h)
 
     -- from the start: the chain spells the bits before b, and a has those from b on
-    pub spell-join : (i : ℕ) (p : List ℕ) (b : ℕ) (a : List ℕ) → i < g .size → g .len i ≤ b → Linked g i p → lastLength g (g .len i) p ≡ 0 → length a ≡ 16 →
+    spell-join : (i : ℕ) (p : List ℕ) (b : ℕ) (a : List ℕ) → i < g .size → g .len i ≤ b → Linked g i p → lastLength g (g .len i) p ≡ 0 → length a ≡ 16 →
         spell g b a (i ∷ p) ≡ joinOf (spelt g (i ∷ p)) a b
     unfolding spell lastLength
     spell-join i [] b a h s l z n = ap (λ (v : List ℕ). joinOf v a b) (sym (spelt-end i [] h z))

@@ -24,7 +24,7 @@ use Rattle.plan.proofs.OrderLaws.{order-good}
 use Rattle.plan.specs.Graph.{ownsA6, graphOf}
 use Rattle.collapse.specs.Fold.{joinedOf, foldOf}
 use Rattle.collapse.specs.Rule.{Unfinished, Continues, Reviving}
-use Rattle.plan.proofs.FaultLaws.{a6-is, is-a6}
+use Rattle.plan.proofs.FaultLaws.{type-is, is-type}
 use Rattle.collapse.proofs.RecordLaws.{kind-joined, owner-joined, prefix-joined, target-joined, bits-joined}
 use Rattle.collapse.proofs.FoldLaws.{Source, Copy, fold-source, fold-keeps-other, fold-makes, fold-whole}
 
@@ -44,16 +44,16 @@ module _ (x t : List ℕ) where
 
   -- the records that the graph folds are those of the rule
   unfinished-in : (r : ℕ) → r < countOf t → Unfinished x (recordAt t r) → folding.Unfinished g x r
-  unfinished-in r h u = ((h, is-owns t r x (a6-is (recordAt t r) (u .0)) (u .2)), u .1)
+  unfinished-in r h u = ((h, is-owns t r x (type-is (recordAt t r) (u .0)) (u .2)), u .1)
 
   in-unfinished : (r : ℕ) → folding.Unfinished g x r → Unfinished x (recordAt t r)
-  in-unfinished r u = let p = owns-is t r x (u .0 .1) in (is-a6 (recordAt t r) (p .0), u .1, p .1)
+  in-unfinished r u = let p = owns-is t r x (u .0 .1) in (is-type (recordAt t r) (p .0), u .1, p .1)
 
   follows-in : (r q : ℕ) → 0 < prefixAt t r → q < countOf t → Continues (recordAt t r) (recordAt t q) → Follows g r q
-  follows-in r q h k c = (h, (k, is-owns t q (targetAt t r) (a6-is (recordAt t q) (c .0)) (c .2)), c .1)
+  follows-in r q h k c = (h, (k, is-owns t q (targetAt t r) (type-is (recordAt t q) (c .0)) (c .2)), c .1)
 
   in-follows : (r q : ℕ) → Follows g r q → Continues (recordAt t r) (recordAt t q)
-  in-follows r q f = let p = owns-is t q (targetAt t r) (f .1 .1) in (is-a6 (recordAt t q) (p .0), f .2, p .1)
+  in-follows r q f = let p = owns-is t q (targetAt t r) (f .1 .1) in (is-type (recordAt t q) (p .0), f .2, p .1)
 
   -- the table after
   abbrev u : List ℕ
@@ -85,7 +85,7 @@ module _ (x t : List ℕ) where
       let wr = record-length t r lr in
       let wq = record-length t q lq in
       record {
-        owners = λ n. ap (λ (w : List ℕ). isA6 w && sameName (ownerOf w) n) e ∙ ap₂ (λ (b : Bool) (o : List ℕ). b && sameName (nameIn o) n) (a6-is (joinedOf near far) (kind-joined near far wr wq) ∙ sym s) (owner-joined near far wr wq);
+        owners = λ n. ap (λ (w : List ℕ). isA6 w && sameName (ownerOf w) n) e ∙ ap₂ (λ (b : Bool) (o : List ℕ). b && sameName (nameIn o) n) (type-is (joinedOf near far) (kind-joined near far wr wq) ∙ sym s) (owner-joined near far wr wq);
         length = ap prefixOf e ∙ prefix-joined near far wr wq;
         target = ap targetOf e ∙ ap nameIn (target-joined near far wr wq);
         bits = ap addressOf e ∙ bits-joined near far wr wq;
@@ -107,7 +107,7 @@ module _ (x t : List ℕ) where
           d .q,
           unfinished-in (d .r) (d .there) (d .unfinished),
           follows-in (d .r) (d .q) (d .unfinished .1) (d .here) (d .continues),
-          joined (d .r) (d .q) j (d .there) (d .here) (a6-is (recordAt t (d .r)) (d .unfinished .0)) (at j m ∙ d .same),
+          joined (d .r) (d .q) j (d .there) (d .here) (type-is (recordAt t (d .r)) (d .unfinished .0)) (at j m ∙ d .same),
         ))
         (fold-source x t j m);
   }
@@ -123,7 +123,7 @@ module _ (x t : List ℕ) where
           absurd (none (record {
             referrer = p;
             there = l;
-            refers = (is-a6 (recordAt t p) (six p l z), z, sym (owns-is t r (targetAt t p) o .1) ∙ own .2);
+            refers = (is-type (recordAt t p) (six p l z), z, sym (owns-is t r (targetAt t p) o .1) ∙ own .2);
             own = r;
             here = v .0 .0;
             unfinished = own;
@@ -138,4 +138,4 @@ module _ (x t : List ℕ) where
       six : (i : ℕ) → i < countOf t → 0 < prefixAt t i → isA6 (recordAt t i) ≡ true
       six i l z =
           let k = order-good t o i l in
-          ⊎-elim (a6-is (recordAt t i)) (λ d. let y : ⊥ = omega (arith, k .bare d .0) in absurd y) (k .kind)
+          ⊎-elim (type-is (recordAt t i)) (λ d. let y : ⊥ = omega (arith, k .bare d .0) in absurd y) (k .kind)

@@ -122,7 +122,7 @@ linked-more t heads next i b h m e l k = record {
     at-next j p q (no d) = getD-set-other next i j (getD heads b 0) 0 d ∙ k .after j (omega (arith, d)) q
 
 -- ---- what is passed over makes nothing
-pub upTo-skip : (f : ℕ → List (List ℕ)) (a b : ℕ) → a ≤ b → ((k : ℕ) → a ≤ k → k < b → f k ≡ []) → upTo b f ≡ upTo a f
+upTo-skip : (f : ℕ → List (List ℕ)) (a b : ℕ) → a ≤ b → ((k : ℕ) → a ≤ k → k < b → f k ≡ []) → upTo b f ≡ upTo a f
 unfolding upTo
 upTo-skip f a zero h s = let e : a ≡ 0 = omega arith in rw e
 upTo-skip f a (suc b) h s = go (ℕ-discrete a (suc b)) (upTo-skip f a b)

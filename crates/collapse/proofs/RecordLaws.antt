@@ -8,7 +8,7 @@ use lib.ListN.{length}
 use Rattle.address.specs.Address.{joinOf}
 use Rattle.address.proofs.AddressLaws.{join-length}
 use Rattle.address.proofs.ClearLaws.{clear-join}
-use Rattle.plan.specs.Layout.{recordSize, addressSize, a6, typeOf, prefixOf, addressOf, ownerSlot, targetSlot, ttlOf, isA6, recordOf}
+use Rattle.plan.specs.Layout.{recordSize, addressSize, a6, typeOf, prefixOf, addressOf, ownerSlot, targetSlot, ttlOf, recordOf, isType}
 use Rattle.plan.specs.Check.{targetless}
 use Rattle.plan.specs.Good.{Good}
 use Rattle.plan.proofs.RecordLaws.{address-length, owner-length, target-length, type-made, prefix-made, zero-made, record-made, address-made, owner-made, target-made, ttl-made}
@@ -72,7 +72,7 @@ module _ (r q : List ℕ) (wr : length r ≡ recordSize) (wq : length q ≡ reco
   }
 
   same-end : typeOf q ≡ a6 → targetless q ≡ targetless (joinedOf r q)
-  unfolding targetless isA6
+  unfolding targetless isType
   same-end k = rw (k, kind-joined, prefix-joined)
 
   -- it keeps the layout, since it is as long as q and its first bits are those of q

@@ -11,7 +11,7 @@ use lib.ListN.{length, take, drop, length-append, length-drop, drop-of-length-le
 use lib.Seq.{paste, take-at, drop-drop, drop-append-add, take-all, length-take-le}
 use borrow.Author.Tests.{lt-ltb, le-ltb, le-leb, lt-leb, ltb-true, ltb-false, eqb-true, eqb-false}
 use Rattle.octets.proofs.BoolLaws.{and-true, clash, refuted}
-use Rattle.plan.proofs.FaultLaws.{a6-is, a6-not}
+use Rattle.plan.proofs.FaultLaws.{type-is, type-not}
 use Rattle.octets.specs.Octets.{blank, flat}
 use Rattle.names.specs.Standard.{Same, sameName}
 use Rattle.chains.specs.Lists.{pick, upTo}
@@ -40,13 +40,13 @@ third a b c e f = rw (e, f)
 
 module _ (r : List ℕ) (b : Bool) where
   pub leads-other : (typeOf r ≡ a6 → ⊥) → leads r && b ≡ false
-  leads-other h = first-no (isA6 r) (ltb 0 (prefixOf r)) b (a6-not r h)
+  leads-other h = first-no (isA6 r) (ltb 0 (prefixOf r)) b (type-not r h)
 
   pub leads-zero : prefixOf r ≡ 0 → leads r && b ≡ false
   leads-zero h = second-no (isA6 r) (ltb 0 (prefixOf r)) b (le-ltb 0 (prefixOf r) (omega arith))
 
   pub leads-on : typeOf r ≡ a6 → (prefixOf r ≡ 0 → ⊥) → leads r && b ≡ b
-  leads-on k h = third (isA6 r) (ltb 0 (prefixOf r)) b (a6-is r k) (lt-ltb 0 (prefixOf r) (omega (arith, h)))
+  leads-on k h = third (isA6 r) (ltb 0 (prefixOf r)) b (type-is r k) (lt-ltb 0 (prefixOf r) (omega (arith, h)))
 
 -- a record that has a target, by its fields and back
 pub leads-is : (r : List ℕ) → typeOf r ≡ a6 → (prefixOf r ≡ 0 → ⊥) → leads r ≡ true
@@ -67,7 +67,7 @@ module _ (x r : List ℕ) where
 module _ (r q : List ℕ) where
   pub continues-other : (typeOf q ≡ a6 → ⊥) → continues r q ≡ false
   unfolding continues
-  continues-other h = first-no (isA6 q) (leb (prefixOf q) (prefixOf r)) (sameName (ownerOf q) (targetOf r)) (a6-not q h)
+  continues-other h = first-no (isA6 q) (leb (prefixOf q) (prefixOf r)) (sameName (ownerOf q) (targetOf r)) (type-not q h)
 
   pub continues-long : prefixOf r < prefixOf q → continues r q ≡ false
   unfolding continues
@@ -75,7 +75,7 @@ module _ (r q : List ℕ) where
 
   pub continues-on : typeOf q ≡ a6 → prefixOf q ≤ prefixOf r → continues r q ≡ sameName (ownerOf q) (targetOf r)
   unfolding continues
-  continues-on k h = third (isA6 q) (leb (prefixOf q) (prefixOf r)) (sameName (ownerOf q) (targetOf r)) (a6-is q k) (le-leb (prefixOf q) (prefixOf r) h)
+  continues-on k h = third (isA6 q) (leb (prefixOf q) (prefixOf r)) (sameName (ownerOf q) (targetOf r)) (type-is q k) (le-leb (prefixOf q) (prefixOf r) h)
 
 -- ---- the least and the greatest value of those that pass a test
 module _ (f : ℕ → Bool) (v : ℕ → ℕ) where

@@ -12,7 +12,7 @@ use Rattle.chains.proofs.ListLaws.{both-true}
 use Rattle.plan.specs.First.{firstFrom, some}
 use Rattle.plan.specs.Layout.{a6, typeOf, prefixOf, ownerOf, targetOf, countOf, recordAt}
 use Rattle.plan.proofs.FirstLaws.{first-none, some-none}
-use Rattle.plan.proofs.FaultLaws.{a6-is, is-a6}
+use Rattle.plan.proofs.FaultLaws.{type-is, is-type}
 use Rattle.collapse.specs.Fold.{leads, unfinished, continues, refers, ignores, reviving}
 use Rattle.collapse.specs.Rule.{Unfinished, Continues, Refers, Reviving}
 
@@ -33,10 +33,10 @@ module _ (r n x : List ℕ) where
   named-is : leads r && sameName n x ≡ true → (typeOf r ≡ a6) × (0 < prefixOf r) × Same n x
   named-is h =
       let p = three _ _ _ h in
-      (is-a6 r (p .0), ltb-true 0 (prefixOf r) (p .1), same-name-same n x (p .2))
+      (is-type r (p .0), ltb-true 0 (prefixOf r) (p .1), same-name-same n x (p .2))
 
   is-named : (typeOf r ≡ a6) × (0 < prefixOf r) × Same n x → leads r && sameName n x ≡ true
-  is-named u = three-true _ _ _ (a6-is r (u .0)) (lt-ltb 0 (prefixOf r) (u .1)) (same-same-name n x (u .2))
+  is-named u = three-true _ _ _ (type-is r (u .0)) (lt-ltb 0 (prefixOf r) (u .1)) (same-same-name n x (u .2))
 
 module _ (x r : List ℕ) where
   pub unfinished-is : unfinished x r ≡ true → Unfinished x r
@@ -59,12 +59,12 @@ pub continues-is : (r q : List ℕ) → continues r q ≡ true → Continues r q
 unfolding continues
 continues-is r q h =
     let p = three _ _ _ h in
-    (is-a6 q (p .0), leb-true _ _ (p .1), same-name-same (ownerOf q) (targetOf r) (p .2))
+    (is-type q (p .0), leb-true _ _ (p .1), same-name-same (ownerOf q) (targetOf r) (p .2))
 
 pub is-continues : (r q : List ℕ) → Continues r q → continues r q ≡ true
 unfolding continues
 is-continues r q u =
-    three-true _ _ _ (a6-is q (u .0)) (le-leb _ _ (u .1)) (same-same-name (ownerOf q) (targetOf r) (u .2))
+    three-true _ _ _ (type-is q (u .0)) (le-leb _ _ (u .1)) (same-same-name (ownerOf q) (targetOf r) (u .2))
 
 -- ---- some number below n passes a test
 pub first-passes : (f : ℕ → Bool) (i n : ℕ) → firstFrom f i n < i + n → f (firstFrom f i n) ≡ true

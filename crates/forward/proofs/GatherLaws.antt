@@ -10,7 +10,7 @@ use native.Mathlib.Decide.{decLt}
 use Rattle.octets.specs.Octets.{Small}
 use Rattle.octets.specs.Numbers.{valueOf}
 use Rattle.chains.specs.Lists.{pick}
-use Rattle.plan.specs.Layout.{a6, isA6, recordAt, addressAt}
+use Rattle.plan.specs.Layout.{a6, recordAt, addressAt, isType}
 use Rattle.plan.specs.Records.{typeAt}
 use Rattle.plan.proofs.LayoutLaws.{record-small}
 use Rattle.plan.proofs.RecordLaws.{address-small}
@@ -23,7 +23,7 @@ use Rattle.rows.proofs.HalvesLaws.{halves}
 
 -- one more owner
 pub owners-more : (t l : List ℕ) (i : ℕ) → set (filled (searchOwner t l) i l) i (pick (eqb (typeAt t i) a6) (getD (filled (searchOwner t l) i l) i 0) noOwner) ≡ filled (searchOwner t l) (i + 1) l
-unfolding isA6
+unfolding isType
 owners-more t l i = rw (filled-after (searchOwner t l) l i i (omega arith), filled-more (searchOwner t l) l i)
 
 -- the address of a record, by its first and last eight octets

@@ -9,7 +9,7 @@ use Rattle.chains.specs.Listing.{workOf}
 use Rattle.chains.specs.Addresses.{addressesOf}
 use Rattle.chains.specs.Renaming.{Alike, Renamed}
 use Rattle.chains.proofs.RenamingLaws.{work-renamed, addresses-renamed}
-use Rattle.plan.specs.Layout.{a6, nameIn, isA6, recordAt, targetAt}
+use Rattle.plan.specs.Layout.{a6, nameIn, recordAt, targetAt, isType}
 use Rattle.plan.specs.Check.{InOrder, entryNumber}
 use Rattle.plan.specs.Graph.{ownsA6, graphOf}
 use Rattle.plan.proofs.RecordLaws.{type-front, prefix-front, address-front, owner-front, target-front}
@@ -20,7 +20,7 @@ use Rattle.forward.proofs.LookupLaws.{number-like, answer-like, output-
 module _ (t u : List ℕ) (apart : ApartInTtls t u) where
   -- every name owns the same records
   alike : (x : List ℕ) → Alike (graphOf t) (graphOf u) x x
-  unfolding ownsA6 isA6
+  unfolding ownsA6 isType
   alike x i h =
       let e = apart .fields i h in
       let k = type-front (recordAt t i) (recordAt u i) e in

@@ -4,12 +4,12 @@ use mathlib.Core.Bool.{Bool, _&&_}
 use mathlib.Core.List.{List}
 use lib.Dec.{eqb}
 use Rattle.chains.specs.Graph.{Graph}
-use Rattle.plan.specs.Layout.{isA6, countOf, recordAt, prefixAt, addressAt, ttlAt}
+use Rattle.plan.specs.Layout.{isA6, countOf, recordAt, prefixAt, addressAt, ttlAt, isType}
 use Rattle.numbering.specs.Numbers.{ownNumber, targetNumber}
 
 -- the record at i is an A6 record of the name with the number x
 unfoldable pub ownsNumbered : List ℕ → ℕ → ℕ → Bool
-unfolding isA6 recordAt ownNumber
+unfolding isType recordAt ownNumber
 ownsNumbered t i x = isA6 (recordAt t i) && eqb (ownNumber t i) x
 
 -- the same records, with numbers for names

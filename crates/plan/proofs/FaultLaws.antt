@@ -16,7 +16,7 @@ use Rattle.names.specs.Standard.{inStandardForm}
 use Rattle.address.specs.Address.{clearTo}
 use Rattle.chains.specs.Graph.{maxTtl}
 use Rattle.address.proofs.ClearLaws.{clear-zero}
-use Rattle.plan.specs.Layout.{slotSize, a6, dname, typeOf, prefixOf, zeroOf, addressOf, ownerSlot, targetSlot, ttlOf, nameIn, slotOf, isA6, isDname}
+use Rattle.plan.specs.Layout.{slotSize, a6, dname, typeOf, prefixOf, zeroOf, addressOf, ownerSlot, targetSlot, ttlOf, nameIn, slotOf, isA6, isType}
 use Rattle.plan.specs.Check.{slotGood, slotEmpty, typeGood, prefixGood, addressGood, targetless, targetGood, ttlGood, faultOf}
 use Rattle.plan.specs.Good.{Holds, Good}
 
@@ -70,61 +70,49 @@ fault-none r a b c d e f g = rw (a, b, eq-eqb (zeroOf r) 0 c, d, e, f, g)
 
 -- the tests of the fields, by the type
 module _ (r : List ℕ) where
-  pub a6-is : typeOf r ≡ a6 → isA6 r ≡ true
-  unfolding isA6
-  a6-is h = eq-eqb (typeOf r) a6 h
+  pub type-is : {k : ℕ} → typeOf r ≡ k → isType k r ≡ true
+  unfolding isType
+  type-is {k} h = eq-eqb (typeOf r) k h
 
-  pub a6-not : (typeOf r ≡ a6 → ⊥) → isA6 r ≡ false
-  unfolding isA6
-  a6-not h = ne-eqb (typeOf r) a6 h
+  pub type-not : {k : ℕ} → (typeOf r ≡ k → ⊥) → isType k r ≡ false
+  unfolding isType
+  type-not {k} h = ne-eqb (typeOf r) k h
 
-  pub is-a6 : isA6 r ≡ true → typeOf r ≡ a6
-  unfolding isA6
-  is-a6 h = eqb-true (typeOf r) a6 h
-
-  pub dname-is : typeOf r ≡ dname → isDname r ≡ true
-  unfolding isDname
-  dname-is h = eq-eqb (typeOf r) dname h
-
-  pub dname-not : (typeOf r ≡ dname → ⊥) → isDname r ≡ false
-  unfolding isDname
-  dname-not h = ne-eqb (typeOf r) dname h
-
-  pub is-dname : isDname r ≡ true → typeOf r ≡ dname
-  unfolding isDname
-  is-dname h = eqb-true (typeOf r) dname h
+  pub is-type : {k : ℕ} → isType k r ≡ true → typeOf r ≡ k
+  unfolding isType
+  is-type {k} h = eqb-true (typeOf r) k h
 
   pub type-a6 : typeOf r ≡ a6 → typeGood r ≡ true
   unfolding typeGood
-  type-a6 h = rw (a6-is h)
+  type-a6 h = rw (type-is h)
 
   pub type-other : (typeOf r ≡ a6 → ⊥) → typeGood r ≡ eqb (typeOf r) dname
-  unfolding typeGood isDname
-  type-other h = rw (a6-not h)
+  unfolding typeGood isType
+  type-other h = rw (type-not h)
 
   pub prefix-a6 : typeOf r ≡ a6 → prefixGood r ≡ leb (prefixOf r) 128
   unfolding prefixGood
-  prefix-a6 h = rw (prefixGood, a6-is h)
+  prefix-a6 h = rw (prefixGood, type-is h)
 
   pub prefix-other : (typeOf r ≡ a6 → ⊥) → prefixGood r ≡ eqb (prefixOf r) 0
   unfolding prefixGood
-  prefix-other h = rw (prefixGood, a6-not h)
+  prefix-other h = rw (prefixGood, type-not h)
 
   pub address-a6 : typeOf r ≡ a6 → addressGood r ≡ clearTo (prefixOf r) (addressOf r)
   unfolding addressGood
-  address-a6 h = rw (addressGood, a6-is h)
+  address-a6 h = rw (addressGood, type-is h)
 
   pub address-other : (typeOf r ≡ a6 → ⊥) → addressGood r ≡ clearTo 128 (addressOf r)
   unfolding addressGood
-  address-other h = rw (addressGood, a6-not h)
+  address-other h = rw (addressGood, type-not h)
 
   pub targetless-is : typeOf r ≡ a6 → targetless r ≡ eqb (prefixOf r) 0
   unfolding targetless
-  targetless-is h = rw (a6-is h)
+  targetless-is h = rw (type-is h)
 
   pub targetless-other : (typeOf r ≡ a6 → ⊥) → targetless r ≡ false
   unfolding targetless
-  targetless-other h = rw (a6-not h)
+  targetless-other h = rw (type-not h)
 
   pub targetless-on : (prefixOf r ≡ 0 → ⊥) → targetless r ≡ false
   unfolding targetless

@@ -96,7 +96,7 @@ module _ (t : List ℕ) (j i : ℕ) where
   unfolding twin
   twin-dname h = rw h
 
-  pub twin-unlike : Holds (ownerSlot (recordAt t i)) → Holds (ownerSlot (recordAt t j)) → isDname (recordAt t j) ≡ true → (markAt t i ≡ markAt t j → ⊥) → twin t j i ≡ false
+  twin-unlike : Holds (ownerSlot (recordAt t i)) → Holds (ownerSlot (recordAt t j)) → isDname (recordAt t j) ≡ true → (markAt t i ≡ markAt t j → ⊥) → twin t j i ≡ false
   twin-unlike p q d u = go (isDname (recordAt t i)) (sameName (ownerAt t i) (ownerAt t j)) refl refl
     where
       go : (v w : Bool) → isDname (recordAt t i) ≡ v → sameName (ownerAt t i) (ownerAt t j) ≡ w → twin t j i ≡ false

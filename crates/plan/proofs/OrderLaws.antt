@@ -21,7 +21,7 @@ use Rattle.plan.specs.Good.{Good}
 use Rattle.plan.proofs.LayoutLaws.{Whole, octets-length, count-octets, record-octets}
 use Rattle.plan.proofs.SlotLaws.{bool-iff}
 use Rattle.plan.proofs.FirstLaws.{first-none, none-first, some-none, none-some}
-use Rattle.plan.proofs.FaultLaws.{fault-good, good-fault, dname-is, is-dname}
+use Rattle.plan.proofs.FaultLaws.{fault-good, good-fault, type-is, is-type}
 
 -- a table in which no record is at fault
 module _ (t : List ℕ) (s : firstFault t ≡ countOf t) where
@@ -93,9 +93,9 @@ apart : (t : List ℕ) → firstRepeat t ≡ countOf t → (i j : ℕ) → i < j
 unfolding firstRepeat repeats twin
 apart t s i j p q d e =
     let r : repeats t j ≡ false = first-none (repeats t) (countOf t) s j q in
-    let u : some (twin t j) j ≡ false = rw (dname-is (recordAt t j) e) at r in
+    let u : some (twin t j) j ≡ false = rw (type-is (recordAt t j) e) at r in
     let v : twin t j i ≡ false = first-none (twin t j) j (some-none (twin t j) j u) i p in
-    rw (dname-is (recordAt t i) d) at v
+    rw (type-is (recordAt t i) d) at v
 
 -- a table in order has whole records, not too many, each of them good, and no two DNAMEs with one owner
 module _ (t : List ℕ) (o : InOrder t) where
@@ -162,8 +162,8 @@ module _ (rs : List (List ℕ)) (w : Whole rs) where
       at-i j i p q d true e =
           let x = record-octets rs w i (omega arith) in
           let y = record-octets rs w j q in
-          let k : typeOf (getD rs i []) ≡ dname = ap typeOf (sym x) ∙ is-dname (recordAt t i) e in
-          let l : typeOf (getD rs j []) ≡ dname = ap typeOf (sym y) ∙ is-dname (recordAt t j) d in
+          let k : typeOf (getD rs i []) ≡ dname = ap typeOf (sym x) ∙ is-type (recordAt t i) e in
+          let l : typeOf (getD rs j []) ≡ dname = ap typeOf (sym y) ∙ is-type (recordAt t j) d in
           rw (e, x, y) (a i j p q k l)
 
       at-j : (j : ℕ) → j < length rs → (b : Bool) → isDname (recordAt t j) ≡ b → repeats t j ≡ false

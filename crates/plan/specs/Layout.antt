@@ -76,13 +76,17 @@ nameIn s = take (getD s 0 0) (drop 1 s)
 unfoldable pub slotOf : List ℕ → List ℕ
 slotOf name = length name ∷ (name ++ blank (nameRoom - length name))
 
+-- a record of the type k
+unfoldable pub isType : ℕ → List ℕ → Bool
+isType k r = eqb (typeOf r) k
+
 -- an A6 record
-unfoldable pub isA6 : List ℕ → Bool
-isA6 r = eqb (typeOf r) a6
+abbrev pub isA6 : List ℕ → Bool
+isA6 = isType a6
 
 -- a DNAME record
-unfoldable pub isDname : List ℕ → Bool
-isDname r = eqb (typeOf r) dname
+abbrev pub isDname : List ℕ → Bool
+isDname = isType dname
 
 -- the name that owns the record
 abbrev pub ownerOf : List ℕ → List ℕ

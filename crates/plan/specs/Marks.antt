@@ -7,7 +7,7 @@ use mathlib.Core.List.{List, [], _∷_}
 use lib.Dec.{ltb, eqb}
 use lib.ListN.{length, getD, take}
 use Rattle.octets.specs.Octets.{sameBy, same}
-use Rattle.plan.specs.Layout.{ownerSlot, isDname, countOf, recordAt}
+use Rattle.plan.specs.Layout.{ownerSlot, isDname, countOf, recordAt, isType}
 use Rattle.plan.specs.Check.{firstFault}
 
 -- the four octets from a place on as one number, the lowest first
@@ -47,7 +47,7 @@ alikeOf a b = same (take 32 a) (take 32 b) && ltb (getD a 0 0) 32
 
 -- the mark of the owner's slot of a DNAME; 0 for any other record
 unfoldable pub markAt : List ℕ → ℕ → ℕ
-unfolding isDname recordAt ownerSlot markOf
+unfolding isType recordAt ownerSlot markOf
 markAt t i = elim (isDname (recordAt t i)) [ true ↦ markOf (ownerSlot (recordAt t i)) | false ↦ 0 ]
 
 -- the first n marks of a list are those of the table's records

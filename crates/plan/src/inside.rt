@@ -7,7 +7,7 @@ ghost use lib.ListN.{length, getD};
 ghost use lib.Seq.{paste};
 ghost use Rattle.names.specs.Standard.{sameName, inStandardForm};
 ghost use Rattle.chains.specs.Lists.{pick};
-ghost use Rattle.plan.specs.Layout.{recordSize, maxRecords, ownerPlace, nameRoom, slotSize, a6, typeOf, prefixOf, zeroOf, addressOf, ownerSlot, targetSlot, ttlOf, nameIn, slotOf, recordOf, countOf, recordAt, prefixAt, addressAt, ownerAt, targetAt, ttlAt};
+ghost use Rattle.plan.specs.Layout.{recordSize, maxRecords, ownerPlace, nameRoom, slotSize, typeOf, prefixOf, zeroOf, addressOf, ownerSlot, targetSlot, ttlOf, nameIn, slotOf, recordOf, countOf, recordAt, prefixAt, addressAt, ownerAt, targetAt, ttlAt};
 ghost use Rattle.plan.specs.Records.{typeAt};
 ghost use Rattle.names.specs.Name.{heldOf};
 ghost use Rattle.plan.specs.Check.{targetless, entryNumber};

@@ -6,12 +6,12 @@ use mathlib.Core.List.{List, [], _∷_, _++_, append-nil}
 use mathlib.Core.Logic.{_⊎_, inl, inr, ⊎-elim}
 use lib.Dec.{eqb}
 use native.Mathlib.Omega.{arith}
-use borrow.Author.Tests.{eq-eqb, ne-eqb, eqb-true, eqb-false}
+use borrow.Author.Tests.{ne-eqb, eqb-true, eqb-false}
 use Rattle.octets.specs.Octets.{Small}
 use Rattle.names.specs.Standard.{unitsOf, inStandardForm}
 use Rattle.names.proofs.RoundLaws.{units-same}
 use Rattle.names.proofs.StandardLaws.{same-same-name}
-use Rattle.plan.specs.Layout.{typeOf, ownerSlot, targetSlot, isA6, isDname, a6, dname, countOf, recordAt, ownerAt, targetAt}
+use Rattle.plan.specs.Layout.{typeOf, ownerSlot, targetSlot, isDname, a6, dname, countOf, recordAt, ownerAt, targetAt, isType}
 use Rattle.plan.specs.Records.{typeAt}
 use Rattle.plan.specs.Check.{targetless, InOrder}
 use Rattle.plan.proofs.LayoutLaws.{record-small}
@@ -26,23 +26,13 @@ use Rattle.reverse.proofs.RelationLaws.{OneTarget}
 use Rattle.rewriting.specs.Spots.{Standing}
 use Rattle.rewriting.proofs.LinkLaws.{form-standing}
 
--- a record's type, read
-module _ (t : List ℕ) (i r : ℕ) (e : r ≡ typeAt t i) where
-  pub dname-is : r ≡ dname → isDname (recordAt t i) ≡ true
-  unfolding isDname
-  dname-is h = eq-eqb (typeAt t i) dname (sym e ∙ h)
-
-  pub dname-not : (r ≡ dname → ⊥) → isDname (recordAt t i) ≡ false
-  unfolding isDname
-  dname-not h = ne-eqb (typeAt t i) dname (λ f. h (e ∙ f))
-
 -- the names of a record
 module _ (t : List ℕ) (o : InOrder t) (i : ℕ) (h : i < countOf t) where
   pub owner-form : inStandardForm (ownerAt t i) ≡ true
   owner-form = order-good t o i h .owner .name
 
   pub target-form : isDname (recordAt t i) ≡ true → inStandardForm (targetAt t i) ≡ true
-  unfolding targetless isA6 isDname
+  unfolding targetless isType
   target-form d =
       let e = eqb-true (typeOf (recordAt t i)) dname d in
       let less : targetless (recordAt t i) ≡ false = rw (ne-eqb (typeOf (recordAt t i)) a6 (λ f. omega arith)) in
@@ -97,7 +87,7 @@ rule-source t (suc n) r i = go (isDname (recordAt t n)) refl (λ j. rule-source 
 -- DNAMEs with one owner are one record
 module _ (t : List ℕ) (o : InOrder t) where
   one-index : (i j : ℕ) → i < countOf t → j < countOf t → isDname (recordAt t i) ≡ true → isDname (recordAt t j) ≡ true → unitsOf (ownerAt t i) ≡ unitsOf (ownerAt t j) → i ≡ j
-  unfolding isDname
+  unfolding isType
   one-index i j p q d e u = go (eqb i j) refl
     where
       go : (b : Bool) → eqb i j ≡ b → i ≡ j

@@ -13,7 +13,8 @@ use Rattle.octets.specs.Octets.{blank}
 use Rattle.octets.proofs.OctetLaws.{length-blank}
 use Rattle.chains.specs.Lists.{pick}
 use Rattle.search.specs.Links.{lists, First, Last, Linked, table, marksOf}
-use Rattle.search.proofs.NodeLaws.{below?, same?, next-is, prev-is, before-is, head-is, after-is, tail-is, Without, first-keep, last-keep, first-skip, last-skip}
+use Rattle.search.proofs.NodeLaws.{below?, same?, stored, Node, Follow, node-below, node-as, next-one, prev-one, Without, follow-keep, follow-skip}
+use Rattle.search.proofs.NodeLaws.{side-record, side-end, first-follow, follow-first, last-follow, follow-last}
 
 -- ---- what a list holds
 module _ (owners u : List ℕ) (x m : ℕ) where
@@ -36,12 +37,9 @@ module _ (owners u : List ℕ) (x m : ℕ) where
   pub lists-free : lists owners u x m ≡ true → getD u m 0 ≡ 0
   lists-free h = same? (getD u m 0) 0 (λ e. e) (λ d. absurd (clash h (lists-used d)))
 
--- marking i takes it out of every list
-marked : (owners u : List ℕ) (i y : ℕ) → i < length u → Without (lists owners u y) (lists owners (set u i 1) y) i
-marked owners u i y l = record {
-  out = lists-used owners (set u i 1) y i (λ e. let z = getD-set-same u i 1 0 l in omega arith);
-  same = λ m d. ap (λ (v : ℕ). eqb v 0 && eqb (getD owners m 0) y) (getD-set-other u i m 1 0 d);
-}
+-- a mark changes nothing for the other records
+pub lists-else : (owners u : List ℕ) (i w x m : ℕ) → (m ≡ i → ⊥) → lists owners (set u i w) x m ≡ lists owners u x m
+lists-else owners u i w x m d = ap (λ (v : ℕ). eqb v 0 && eqb (getD owners m 0) x) (getD-set-other u i m w 0 d)
 
 -- ---- marks read off the links
 table-length : (n : ℕ) (f : ℕ → ℕ) → length (table n f) ≡ n
@@ -55,7 +53,7 @@ table-at zero f i l = absurd (omega arith)
 table-at (suc n) f zero l = refl
 table-at (suc n) f (suc i) l = table-at n (λ i. f (suc i)) i (omega arith)
 
-pub marks-length : (n : ℕ) (next prev : List ℕ) → length (marksOf n next prev) ≡ n
+marks-length : (n : ℕ) (next prev : List ℕ) → length (marksOf n next prev) ≡ n
 unfolding marksOf
 marks-length n next prev = table-length n _
 
@@ -69,13 +67,60 @@ mark-zero n next prev i l e = mark-at n next prev i l ∙ rw (eq-eqb (getD next 
 mark-one : (n : ℕ) (next prev : List ℕ) (i : ℕ) → i < n → (getD next (getD prev i 0) 0 ≡ i → ⊥) → getD (marksOf n next prev) i 0 ≡ 1
 mark-one n next prev i l e = mark-at n next prev i l ∙ rw (ne-eqb (getD next (getD prev i 0) 0) i e)
 
+-- ---- the same links by neighbours
+module _ (owners u : List ℕ) where
+  abbrev size : ℕ
+  size = length owners
+
+  -- a is a node of the list of y, and b the next one after it
+  abbrev pub Of : ℕ → ℕ → Type 0
+  Of y a = Node (lists owners u y) size (size + y) a
+
+  abbrev pub Beside : ℕ → ℕ → ℕ → Type 0
+  Beside y a b = Follow (lists owners u y) size (size + y) a b
+
+  pub record-of : (j : ℕ) → j < size → getD u j 0 ≡ 0 → Of (getD owners j 0) j
+  record-of j l h = record { here = λ _. lists-yes owners u (getD owners j 0) j refl h; over = λ o. absurd (omega arith) }
+
+  pub end-of : (y : ℕ) → Of y (size + y)
+  end-of y = record { here = λ l. absurd (omega arith); over = λ _. refl }
+
+  -- each node leads to the one after it and to the one before it
+  pub record Ring (next prev : List ℕ) : Type 0 where
+    pub after : (y a : ℕ) → size + y < length next → Of y a → Beside y a (getD next a 0)
+    pub before : (y a : ℕ) → size + y < length next → Of y a → Beside y (getD prev a 0) a
+
+  module _ {next prev : List ℕ} where
+    pub ring : Linked owners u next prev → Ring next prev
+    ring k = record {
+      after = λ y a h w. below? a size
+          (λ l. first-follow (side-record l) w (subst (λ (v : ℕ). First (lists owners u v) size (size + v) (suc a) (getD next a 0))
+          (lists-owner owners u y a (w .here l)) (k .on a l (lists-free owners u y a (w .here l)))))
+          (λ l. first-follow (side-end l (λ m _. omega arith)) w
+          (subst (λ (v : ℕ). First (lists owners u y) size (size + y) 0 (getD next v 0)) (sym (w .over l)) (k .head y h)));
+      before = λ y a h w. below? a size
+          (λ l. last-follow (side-record l) w (subst (λ (v : ℕ). Last (lists owners u v) size (size + v) a (getD prev a 0))
+          (lists-owner owners u y a (w .here l)) (k .back a l (lists-free owners u y a (w .here l)))))
+          (λ l. last-follow (side-end l (λ m o. o)) w
+          (subst (λ (v : ℕ). Last (lists owners u y) size (size + y) size (getD prev v 0)) (sym (w .over l)) (k .tail y h)));
+    }
+
+    pub linked : length prev ≡ length next → length u ≡ size → ((j : ℕ) → j < size → size + getD owners j 0 < length next)
+        → Ring next prev → Linked owners u next prev
+    linked h m o r = record {
+      level = h;
+      marks = m;
+      owner = o;
+      on = λ j l z. follow-first (side-record l) (r .after (getD owners j 0) j (o j l) (record-of j l z));
+      head = λ y l. follow-first (side-end (omega arith) (λ m _. omega arith)) (r .after y (size + y) l (end-of y));
+      back = λ j l z. follow-last (omega arith) (side-record l) (r .before (getD owners j 0) j (o j l) (record-of j l z));
+      tail = λ y l. follow-last (omega arith) (side-end (omega arith) (λ m o. o)) (r .before y (size + y) l (end-of y));
+    }
+
 -- ---- the record i out of its list, and in again
 module _ (owners u next prev : List ℕ) (k : Linked owners u next prev) (i : ℕ) (li : i < length owners) (ui : getD u i 0 ≡ 0) where
   abbrev n : ℕ
   n = length owners
-
-  abbrev x : ℕ
-  x = getD owners i 0
 
   abbrev p : ℕ
   p = getD prev i 0
@@ -83,136 +128,71 @@ module _ (owners u next prev : List ℕ) (k : Linked owners u next prev) (i : �
   abbrev q : ℕ
   q = getD next i 0
 
-  pi : lists owners u x i ≡ true
-  pi = lists-yes owners u x i refl ui
+  abbrev x : ℕ
+  x = getD owners i 0
 
-  abbrev bk : Last (lists owners u x) n (n + x) i p
-  bk = k .back i li ui
+  r : Ring owners u next prev
+  r = ring owners u k
 
-  abbrev fw : First (lists owners u x) n (n + x) (suc i) q
-  fw = k .on i li ui
+  to-i : Beside owners u x p i
+  to-i = r .before x i (k .owner i li) (record-of owners u i li ui)
+
+  from-i : Beside owners u x i q
+  from-i = r .after x i (k .owner i li) (record-of owners u i li ui)
 
   pub prev-node : p < length next
-  prev-node = below? p n (λ l. let r = k .owner i li in omega arith) (λ l. let r = bk .over l in let z = k .owner i li in omega arith)
+  prev-node = node-below (length next) (omega arith) (k .owner i li) (to-i .left)
 
   pub next-node : q < length next
-  next-node = below? q n (λ l. let r = k .owner i li in omega arith) (λ l. let r = fw .over l in let z = k .owner i li in omega arith)
+  next-node = node-below (length next) (omega arith) (k .owner i li) (from-i .right)
 
   -- its neighbours lead to it
   pub prev-leads : getD next p 0 ≡ i
-  prev-leads =
-      below? p n
-      (λ l. let r = bk .here l in
-      let e = lists-owner owners u x p (r .1) in
-      next-is (lists owners u x) n (n + x) i li pi p (suc p) (getD next p 0) bk (r .0) (λ m a _. a)
-      (subst (λ (y : ℕ). First (lists owners u y) n (n + y) (suc p) (getD next p 0)) e (k .on p l (lists-free owners u x p (r .1)))))
-      (λ l. let r = bk .over l in
-      next-is (lists owners u x) n (n + x) i li pi p 0 (getD next p 0) bk (omega arith) (λ m _ a. absurd (omega arith))
-      (subst (λ (v : ℕ). First (lists owners u x) n (n + x) 0 (getD next v 0)) (sym r) (k .head x (k .owner i li))))
+  prev-leads = next-one (r .after x p (k .owner i li) (to-i .left)) to-i
 
   pub next-leads : getD prev q 0 ≡ i
-  next-leads =
-      below? q n
-      (λ l. let r = fw .here l in
-      let e = lists-owner owners u x q (r .1) in
-      prev-is (lists owners u x) n (n + x) i li pi q q (getD prev q 0) fw (r .0) (λ m a _. a)
-      (subst (λ (y : ℕ). Last (lists owners u y) n (n + y) q (getD prev q 0)) e (k .back q l (lists-free owners u x q (r .1)))))
-      (λ l. let r = fw .over l in
-      prev-is (lists owners u x) n (n + x) i li pi q n (getD prev q 0) fw li (λ m _ a. absurd (omega arith))
-      (subst (λ (v : ℕ). Last (lists owners u x) n (n + x) n (getD prev v 0)) (sym r) (k .tail x (k .owner i li))))
+  next-leads = prev-one (r .before x q (k .owner i li) (from-i .right)) from-i
 
-  abbrev lu : i < length u
-  lu = subst (λ (v : ℕ). i < v) (sym (k .marks)) li
+  abbrev u′ : List ℕ
+  u′ = set u i 1
 
-  -- an unused record of the marked list is one of the list, and not i
-  apart : (j : ℕ) → getD (set u i 1) j 0 ≡ 0 → j ≡ i → ⊥
-  apart j h e = let z = getD-set-same u i 1 0 lu in let y : getD (set u i 1) i 0 ≡ 0 = subst (λ (v : ℕ). getD (set u i 1) v 0 ≡ 0) e h in omega arith
-
-  unused : (j : ℕ) → getD (set u i 1) j 0 ≡ 0 → getD u j 0 ≡ 0
-  unused j h = sym (getD-set-other u i j 1 0 (apart j h)) ∙ h
-
-  on′ : (j : ℕ) → j < n → getD (set u i 1) j 0 ≡ 0 → First (lists owners (set u i 1) (getD owners j 0)) n (n + getD owners j 0) (suc j) (getD (set next p q) j 0)
-  on′ j lj h =
-      let y = getD owners j 0 in
-      let f = k .on j lj (unused j h) in
-      same? j p
-      (λ e. let lp : p < n = omega arith in
-      let r = bk .here lp in
-      let ey : x ≡ y = sym (ap (λ (v : ℕ). getD owners v 0) e ∙ lists-owner owners u x p (r .1)) in
-      let f′ : First (lists owners u y) n (n + y) (suc j) i = subst (First (lists owners u y) n (n + y) (suc j)) (ap (λ (v : ℕ). getD next v 0) e ∙ prev-leads) f in
-      subst (First (lists owners (set u i 1) y) n (n + y) (suc j)) (sym (ap (λ (v : ℕ). getD (set next p q) v 0) e ∙ getD-set-same next p q 0 prev-node))
-      (first-skip (lists owners u y) (lists owners (set u i 1) y) n (n + y) i (marked owners u i y lu) li (suc j) q f′
-      (subst (λ (v : ℕ). First (lists owners u v) n (n + v) (suc i) q) ey fw)))
-      (λ d. subst (First (lists owners (set u i 1) y) n (n + y) (suc j)) (sym (getD-set-other next p j q 0 d))
-      (first-keep (lists owners u y) (lists owners (set u i 1) y) n (n + y) i (marked owners u i y lu) (suc j) (getD next j 0)
-      (λ e. let f′ : First (lists owners u y) n (n + y) (suc j) i = subst (First (lists owners u y) n (n + y) (suc j)) e f in
-      let ey : x ≡ y = lists-owner owners u y i (f′ .here li .1) in
-      d (before-is (lists owners u y) n (n + y) i li (f′ .here li .1) j p lj (lists-yes owners u y j refl (unused j h)) f′
-      (subst (λ (v : ℕ). Last (lists owners u v) n (n + v) i p) ey bk)))
-      f))
-
-  head′ : (y : ℕ) → n + y < length next → First (lists owners (set u i 1) y) n (n + y) 0 (getD (set next p q) (n + y) 0)
-  head′ y h =
-      let f = k .head y h in
-      same? (n + y) p
-      (λ e. let ey : x ≡ y = let r = bk .over (omega arith) in omega arith in
-      let f′ : First (lists owners u y) n (n + y) 0 i = subst (First (lists owners u y) n (n + y) 0) (ap (λ (v : ℕ). getD next v 0) e ∙ prev-leads) f in
-      subst (First (lists owners (set u i 1) y) n (n + y) 0) (sym (ap (λ (v : ℕ). getD (set next p q) v 0) e ∙ getD-set-same next p q 0 prev-node))
-      (first-skip (lists owners u y) (lists owners (set u i 1) y) n (n + y) i (marked owners u i y lu) li 0 q f′
-      (subst (λ (v : ℕ). First (lists owners u v) n (n + v) (suc i) q) ey fw)))
-      (λ d. subst (First (lists owners (set u i 1) y) n (n + y) 0) (sym (getD-set-other next p (n + y) q 0 d))
-      (first-keep (lists owners u y) (lists owners (set u i 1) y) n (n + y) i (marked owners u i y lu) 0 (getD next (n + y) 0)
-      (λ e. let f′ : First (lists owners u y) n (n + y) 0 i = subst (First (lists owners u y) n (n + y) 0) e f in
-      let ey : x ≡ y = lists-owner owners u y i (f′ .here li .1) in
-      d (sym (head-is (lists owners u y) n (n + y) i li (f′ .here li .1) p f′ (subst (λ (v : ℕ). Last (lists owners u v) n (n + v) i p) ey bk))))
-      f))
-
-  back′ : (j : ℕ) → j < n → getD (set u i 1) j 0 ≡ 0 → Last (lists owners (set u i 1) (getD owners j 0)) n (n + getD owners j 0) j (getD (set prev q p) j 0)
-  back′ j lj h =
-      let y = getD owners j 0 in
-      let f = k .back j lj (unused j h) in
-      same? j q
-      (λ e. let lq : q < n = omega arith in
-      let r = fw .here lq in
-      let ey : x ≡ y = sym (ap (λ (v : ℕ). getD owners v 0) e ∙ lists-owner owners u x q (r .1)) in
-      let f′ : Last (lists owners u y) n (n + y) j i = subst (Last (lists owners u y) n (n + y) j) (ap (λ (v : ℕ). getD prev v 0) e ∙ next-leads) f in
-      subst (Last (lists owners (set u i 1) y) n (n + y) j) (sym (ap (λ (v : ℕ). getD (set prev q p) v 0) e ∙ getD-set-same prev q p 0 (omega (arith, next-node, k .level))))
-      (last-skip (lists owners u y) (lists owners (set u i 1) y) n (n + y) i (marked owners u i y lu) li j p f′
-      (subst (λ (v : ℕ). Last (lists owners u v) n (n + v) i p) ey bk)))
-      (λ d. subst (Last (lists owners (set u i 1) y) n (n + y) j) (sym (getD-set-other prev q j p 0 d))
-      (last-keep (lists owners u y) (lists owners (set u i 1) y) n (n + y) i (marked owners u i y lu) j (getD prev j 0)
-      (λ e. let f′ : Last (lists owners u y) n (n + y) j i = subst (Last (lists owners u y) n (n + y) j) e f in
-      let ey : x ≡ y = lists-owner owners u y i (f′ .here li .1) in
-      d (after-is (lists owners u y) n (n + y) i li (f′ .here li .1) j q lj (lists-yes owners u y j refl (unused j h)) f′
-      (subst (λ (v : ℕ). First (lists owners u v) n (n + v) (suc i) q) ey fw)))
-      f))
-
-  tail′ : (y : ℕ) → n + y < length next → Last (lists owners (set u i 1) y) n (n + y) n (getD (set prev q p) (n + y) 0)
-  tail′ y h =
-      let f = k .tail y h in
-      same? (n + y) q
-      (λ e. let ey : x ≡ y = let r = fw .over (omega arith) in omega arith in
-      let f′ : Last (lists owners u y) n (n + y) n i = subst (Last (lists owners u y) n (n + y) n) (ap (λ (v : ℕ). getD prev v 0) e ∙ next-leads) f in
-      subst (Last (lists owners (set u i 1) y) n (n + y) n) (sym (ap (λ (v : ℕ). getD (set prev q p) v 0) e ∙ getD-set-same prev q p 0 (omega (arith, next-node, k .level))))
-      (last-skip (lists owners u y) (lists owners (set u i 1) y) n (n + y) i (marked owners u i y lu) li n p f′
-      (subst (λ (v : ℕ). Last (lists owners u v) n (n + v) i p) ey bk)))
-      (λ d. subst (Last (lists owners (set u i 1) y) n (n + y) n) (sym (getD-set-other prev q (n + y) p 0 d))
-      (last-keep (lists owners u y) (lists owners (set u i 1) y) n (n + y) i (marked owners u i y lu) n (getD prev (n + y) 0)
-      (λ e. let f′ : Last (lists owners u y) n (n + y) n i = subst (Last (lists owners u y) n (n + y) n) e f in
-      let ey : x ≡ y = lists-owner owners u y i (f′ .here li .1) in
-      d (sym (tail-is (lists owners u y) n (n + y) i li (f′ .here li .1) q f′ (subst (λ (v : ℕ). First (lists owners u v) n (n + v) (suc i) q) ey fw))))
-      f))
-
-  unlinked : Linked owners (set u i 1) (set next p q) (set prev q p)
-  unlinked = record {
-    level = length-set prev q p ∙ k .level ∙ sym (length-set next p q);
-    marks = length-set u i 1 ∙ k .marks;
-    owner = λ j l. subst (λ (v : ℕ). n + getD owners j 0 < v) (sym (length-set next p q)) (k .owner j l);
-    on = on′;
-    head = λ y l. head′ y (subst (λ (v : ℕ). n + y < v) (length-set next p q) l);
-    back = back′;
-    tail = λ y l. tail′ y (subst (λ (v : ℕ). n + y < v) (length-set next p q) l);
+  -- marking i takes it out of every list
+  gone : (y : ℕ) → Without (lists owners u y) (lists owners u′ y) i
+  gone y = record {
+    out = lists-used owners u′ y i (λ e. let z = getD-set-same u i 1 0 (omega (arith, k .marks)) in omega arith);
+    same = lists-else owners u i 1 y;
   }
+
+  -- a node of what is left is another one than i, and was one before
+  apart : (y a : ℕ) → Of owners u′ y a → a ≡ i → ⊥
+  apart y a w e = clash (w .here (omega arith)) (ap (lists owners u′ y) e ∙ gone y .out)
+
+  was : (y a : ℕ) → Of owners u′ y a → Of owners u y a
+  was y a w = node-as (λ _ _. sym (gone y .same a (apart y a w))) w
+
+  -- past i the links lead on from one neighbour to the other, and elsewhere as before
+  passed : Ring owners u′ (set next p q) (set prev q p)
+  passed = record {
+    after = λ y a o w.
+        let l = subst (λ (v : ℕ). n + y < v) (length-set next p q) o in
+        let f = r .after y a l (was y a w) in
+        let to : getD next a 0 ≡ i → Beside owners u y a i = λ e. subst (Beside owners u y a) e f in
+        stored (Beside owners u′ y a) next p q a prev-node
+        (λ e. let g = to (ap (λ (v : ℕ). getD next v 0) e ∙ prev-leads) in follow-skip (gone y) li g (r .after y i l (g .right)))
+        (λ d. follow-keep (gone y) (apart y a w) (λ e. d (prev-one (to e) (r .before y i l (to e .right)))) f);
+    before = λ y a o w.
+        let l = subst (λ (v : ℕ). n + y < v) (length-set next p q) o in
+        let f = r .before y a l (was y a w) in
+        let from : getD prev a 0 ≡ i → Beside owners u y i a = λ e. subst (λ (v : ℕ). Beside owners u y v a) e f in
+        stored (λ (v : ℕ). Beside owners u′ y v a) prev q p a (omega (arith, next-node, k .level))
+        (λ e. let g = from (ap (λ (v : ℕ). getD prev v 0) e ∙ next-leads) in follow-skip (gone y) li (r .before y i l (g .left)) g)
+        (λ d. follow-keep (gone y) (λ e. d (next-one (from e) (r .after y i l (from e .left)))) (apart y a w) f);
+  }
+
+  unlinked : Linked owners u′ (set next p q) (set prev q p)
+  unlinked =
+      linked owners u′ (length-set prev q p ∙ k .level ∙ sym (length-set next p q)) (length-set u i 1 ∙ k .marks)
+      (λ j l. subst (λ (v : ℕ). n + getD owners j 0 < v) (sym (length-set next p q)) (k .owner j l)) passed
 
   -- what was stored is what is stored again
   pub relinked-next : (next′ : List ℕ) → next′ ≡ set next p q → set next′ p i ≡ next

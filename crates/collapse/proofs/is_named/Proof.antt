@@ -1,7 +1,7 @@
 -- `collapse::is_named` meets its contract: the tests in their order.
 use mathlib.Core.Path.{_≡_, sym, ap, _∙_}
 use Rattle.names.specs.Standard.{sameName, inStandardForm}
-use Rattle.plan.specs.Layout.{prefixOf, typeOf, a6, nameIn}
+use Rattle.plan.specs.Layout.{prefixOf, typeOf, a6}
 use Prim.Native.Nat.{ℕ}
 use mathlib.Core.List.{List}
 use Rattle.collapse.proofs.RunningLaws.{leads-other, leads-zero, leads-on, leads-is}

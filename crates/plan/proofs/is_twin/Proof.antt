@@ -5,7 +5,7 @@ use mathlib.Core.Path.{_≡_, ap, _∙_, sym}
 use mathlib.Core.Bool.{true}
 use Rattle.names.specs.Standard.{inStandardForm}
 use Rattle.plan.specs.Layout.{recordAt}
-use Rattle.plan.proofs.FaultLaws.{dname-is, dname-not}
+use Rattle.plan.proofs.FaultLaws.{type-is, type-not}
 use Rattle.plan.proofs.OrderLaws.{sound-owner}
 use Rattle.plan.proofs.MarkLaws.{twin-other, twin-dname, twin-not}
 use Rattle.plan.proofs.is_twin.Statement.{statement}
@@ -38,7 +38,7 @@ kind-requires c κs = search needs
 returns-2 : tie.Need-returns-2
 returns-2 c =
     let a = c .before .before .before .before .before .before .args in
-    sym (twin-other (a .table .now) (a .j) (a .i) (dname-not (recordAt (a .table .now) (a .i)) (λ h. c .if2 .taken (c .before .kind .ensures ∙ h))))
+    sym (twin-other (a .table .now) (a .j) (a .i) (type-not (recordAt (a .table .now) (a .i)) (λ h. c .if2 .taken (c .before .kind .ensures ∙ h))))
 
 owner-requires : tie.Need-owner-requires
 owner-requires c κs = search needs
@@ -53,7 +53,7 @@ returns-3 : tie.Need-returns-3
 returns-3 c =
     let a = c .before .before .before .before .before .before .before .before .before .args in
     let t = a .table .now in
-    let d = dname-is (recordAt t (a .i)) (sym (c .before .before .before .before .kind .ensures) ∙ c .before .before .before .if2 .left) in
+    let d = type-is (recordAt t (a .i)) (sym (c .before .before .before .before .kind .ensures) ∙ c .before .before .before .if2 .left) in
     c .equal .ensures ∙ rw (c .before .before .owner .ensures, c .before .owner2 .ensures) (sym (twin-dname t (a .j) (a .i) d))
 
 pub is-twin-spec : {M : Type 1} → statement M

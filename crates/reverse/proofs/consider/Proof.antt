@@ -1,16 +1,17 @@
 -- `reverse::consider` meets its contract: a record that is no DNAME changes nothing.
 use Prim.Native.Nat.{ℕ}
-use mathlib.Core.Path.{_≡_, ap, _∙_}
+use mathlib.Core.Path.{_≡_, sym, ap, _∙_}
 use mathlib.Core.Bool.{true}
 use mathlib.Core.List.{List}
 use native.Mathlib.Omega.{arith}
 use Rattle.octets.specs.Octets.{Small}
 use Rattle.names.specs.Standard.{Unit, unitsOf}
 use Rattle.plan.specs.Layout.{isDname, recordAt, ownerAt}
+use Rattle.plan.proofs.FaultLaws.{type-is, type-not}
 use Rattle.rewriting.specs.Rewrite.{belowOf}
 use Rattle.rewriting.specs.Spots.{unitsAt}
 use Rattle.rewriting.proofs.LinkLaws.{form-units}
-use Rattle.reverse.proofs.TableLaws.{dname-is, dname-not, owner-form, owner-standing}
+use Rattle.reverse.proofs.TableLaws.{owner-form, owner-standing}
 use Rattle.reverse.proofs.ChoiceLaws.{chosen-other, chosen-dname}
 use borrow.Author.Needs.{needs}
 use Rattle.reverse.proofs.consider.Statement.{statement}
@@ -36,7 +37,7 @@ is-dname : (c : tie.After-owner) → isDname (recordAt (table (begun-owner c)) (
 is-dname c =
     let s = begun-owner c in
     let k = c .before .before .kind in
-    dname-is (table s) (s .args .i) (k .result) (k .ensures) (c .before .if1 .left)
+    type-is (recordAt (table s) (s .args .i)) (sym (k .ensures) ∙ c .before .if1 .left)
 
 -- how many units of the name are below that owner
 below : (c : tie.After-beneath) → c .beneath .result ≡ belowOf (unitsOf (ownerAt (table (begun-owner (c .before))) (begun-owner (c .before) .args .i))) (units (begun-owner (c .before)))
@@ -53,7 +54,7 @@ returns : tie.Need-returns
 returns c =
     let s = begun (c .before) in
     let k = c .before .kind in
-    chosen-other (table s) (s .args .name .now) (s .args .i) (s .args .b) (s .pre .3) (dname-not (table s) (s .args .i) (k .result) (k .ensures) (c .if1 .taken))
+    chosen-other (table s) (s .args .name .now) (s .args .i) (s .args .b) (s .pre .3) (type-not (recordAt (table s) (s .args .i)) (λ f. c .if1 .taken (k .ensures ∙ f)))
 
 owner-requires : tie.Need-owner-requires
 owner-requires c κs = search needs

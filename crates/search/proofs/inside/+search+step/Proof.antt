@@ -6,7 +6,7 @@ use mathlib.Core.Path.{_≡_, sym, ap, subst, _∙_}
 use native.Mathlib.Omega.{arith}
 use lib.ListN.{length, getD}
 use borrow.Author.Needs.{needs}
-use borrow.Fn.Kinds.{In}
+use borrow.Fn.Kinds.{In, Out as PostT}
 use borrow.Fn.PlainCycle.{Measures, is, falls, and}
 use Rattle.chains.specs.Listing.{free}
 use Rattle.search.specs.Links.{maxNodes, Memory, memory, marksOf, unusedOf, stepOf, Fit, Ready, Done}
@@ -18,9 +18,13 @@ use Rattle.search.proofs.GoingLaws.{memory-eq, done-as, Sought, sought,
 use Rattle.search.proofs.inside.search.Reads as search′
 use Rattle.search.proofs.inside.search.Kinds as search-kinds
 use Rattle.search.proofs.inside.+search+step.Lts-search as search-lts
+use Rattle.search.proofs.inside.+search+step.Lts-search.{Start as Begun, At-loop as Looping, In-loop as Turn}
+use Rattle.search.proofs.inside.+search+step.Lts-search.{After-length-in as Read, After-step-arg5 as Asking, After-wide as Led}
 use Rattle.search.proofs.inside.step.Reads as step
 use Rattle.search.proofs.inside.step.Kinds as step-kinds
 use Rattle.search.proofs.inside.+search+step.Lts-step as step-lts
+use Rattle.search.proofs.inside.+search+step.Lts-step.{Start as Begun′, Else1 as Goes-on, After-unlink as Out, Joined2 as Back}
+use Rattle.search.proofs.inside.+search+step.Lts-step.{After-length-in as Lengthy, After-target-in as Aimed, After-search-arg5 as Asking′}
 use Rattle.search.proofs.inside.joined.Reads as joined-reads
 use Rattle.search.proofs.inside.length_in.Reads as length-reads
 use Rattle.search.proofs.inside.ttl_in.Reads as ttl-reads
@@ -96,104 +100,91 @@ search-μ-loop owners fields x first bound high low ttl next₀ prev₀ out₀ l
 -- ---- search: what is known at its places, `Begun` where it begins, `Looping` where the loop is tested, `Turn` in a turn of it, `Read` where the record's
 -- length is read, `Asking` where the step is called, `Led` where the next record of the list is known
 module _ (t : ℕ) where
-  abbrev Begun : Type 0
-  Begun = search-lts.Start (search-claims t) (search-at t) search′.Post search-Inv-loop search-μ-loop
+  -- a place, or what is owed there, with what is known of the functions that it calls
+  abbrev At : (search-lts.Claims → In 7 search-kinds.ps → PostT 7 search-kinds.ps search-kinds.r → search-lts.InvT-loop → search-lts.MeasureT-loop → Type 0)
+      → Type 0
+  At place = place (search-claims t) (search-at t) search′.Post search-Inv-loop search-μ-loop
 
-  abbrev Looping : Type 0
-  Looping = search-lts.At-loop (search-claims t) (search-at t) search′.Post search-Inv-loop search-μ-loop
-
-  abbrev Turn : Type 0
-  Turn = search-lts.In-loop (search-claims t) (search-at t) search′.Post search-Inv-loop search-μ-loop
-
-  abbrev Read : Type 0
-  Read = search-lts.After-length-in (search-claims t) (search-at t) search′.Post search-Inv-loop search-μ-loop
-
-  abbrev Asking : Type 0
-  Asking = search-lts.After-step-arg5 (search-claims t) (search-at t) search′.Post search-Inv-loop search-μ-loop
-
-  abbrev Led : Type 0
-  Led = search-lts.After-wide (search-claims t) (search-at t) search′.Post search-Inv-loop search-μ-loop
-
-  abbrev entered : Looping → Begun
+  abbrev entered : At Looping → At Begun
   entered c = c .before .before .before .before
 
-  abbrev begun : Turn → Begun
+  abbrev begun : At Turn → At Begun
   begun c = entered (c .before)
 
-  abbrev turn : Read → Turn
+  abbrev turn : At Read → At Turn
   turn c = c .before .before .before
 
-  abbrev read : Asking → Read
+  abbrev read : At Asking → At Read
   read c = c .before .before .before .before .before .before
 
-  abbrev read-before : Led → Read
+  abbrev read-before : At Led → At Read
   read-before c = c .before .before .before
 
-  abbrev turned : Led → Turn
+  abbrev turned : At Led → At Turn
   turned c = turn (read-before c)
 
-  abbrev table : Begun → Records
+  abbrev table : At Begun → Records
   table c = records (c .args .owners .now) (c .args .fields .now)
 
-  abbrev lent : Begun → Memory
+  abbrev lent : At Begun → Memory
   lent c = memory (c .args .next .now) (c .args .prev .now) (c .args .out .now) (c .args .lives .now) (c .args .figures .now) (c .args .left)
 
-  abbrev here : Looping → Memory
+  abbrev here : At Looping → Memory
   here c = memory (c .loop .next) (c .loop .prev) (c .loop .out) (c .loop .lives) (c .loop .figures) (c .loop .s)
 
-  abbrev bits : Begun → List ℕ
+  abbrev bits : At Begun → List ℕ
   bits c = addressOf (c .args .high) (c .args .low)
 
   -- what it is asked for, and the laws of its loop in a turn
-  abbrev asked : Begun → Sought
+  abbrev asked : At Begun → Sought
   asked c = sought (table c) (c .args .x) (c .args .bound) (bits c) (c .args .ttl) (lent c)
 
-  fit : (c : Begun) → Fit (table c) (lent c) (c .args .bound)
+  fit : (c : At Begun) → Fit (table c) (lent c) (c .args .bound)
   fit c = c .pre .1 .0
 
-  place : (c : Turn) → c .before .loop .i < maxRecords
+  place : (c : At Turn) → c .before .loop .i < maxRecords
   place c = omega (arith, fit (begun c) .numbered .owned .few, c .loop-test .taken)
 
-  same : (c : Turn) → unusedOf (table (begun c)) (here (c .before)) ≡ unusedOf (table (begun c)) (lent (begun c))
+  same : (c : At Turn) → unusedOf (table (begun c)) (here (c .before)) ≡ unusedOf (table (begun c)) (lent (begun c))
   same c = same-unused (asked (begun c)) (fit (begun c)) (c .before .loop .inv) (c .loop-test .taken)
 
-  onwards : (c : Turn) → c .before .loop .i < getD (c .before .loop .next) (c .before .loop .i) 0
+  onwards : (c : At Turn) → c .before .loop .i < getD (c .before .loop .next) (c .before .loop .i) 0
   onwards c = further (asked (begun c)) (fit (begun c)) (c .before .loop .inv) (c .loop-test .taken)
 
-  ready : (c : Turn) → lengthOf (table (begun c)) (c .before .loop .i) ≤ begun c .args .bound → 0 < c .before .loop .s
+  ready : (c : At Turn) → lengthOf (table (begun c)) (c .before .loop .i) ≤ begun c .args .bound → 0 < c .before .loop .s
       → Ready (table (begun c)) (here (c .before)) (begun c .args .bound) (c .before .loop .i)
   ready c n h =
       let s = begun c in
       going-ready (asked s) (fit s) (c .before .loop .inv) (c .loop-test .taken) (address-length (s .args .high) (s .args .low)) n h
 
   -- ---- and what it owes
-  search-loop-holds : search-lts.Need-loop-holds (search-claims t) (search-at t) search′.Post search-Inv-loop search-μ-loop
+  search-loop-holds : At search-lts.Need-loop-holds
   search-loop-holds c =
       let s = c .before .before .before in
       let p = s .pre .1 .1 in
       going-start (asked s) (fit s) (s .args .first) (p .0) (p .1)
 
-  search-same-length : search-lts.Need-same-length (search-claims t) (search-at t) search′.Post search-Inv-loop search-μ-loop
+  search-same-length : At search-lts.Need-same-length
   search-same-length c = c .before .before .loop .inv .out
 
-  search-same-length-2 : search-lts.Need-same-length-2 (search-claims t) (search-at t) search′.Post search-Inv-loop search-μ-loop
+  search-same-length-2 : At search-lts.Need-same-length-2
   search-same-length-2 c = c .before .before .loop .inv .lives
 
-  search-returns : search-lts.Need-returns (search-claims t) (search-at t) search′.Post search-Inv-loop search-μ-loop
+  search-returns : At search-lts.Need-returns
   search-returns c =
       let s = begun (c .before) in
       going-over (asked s) (fit s) (c .before .before .loop .inv) (c .before .loop-test .taken) (c .if1 .taken)
 
-  search-mul-length-in : search-lts.Need-mul-length-in (search-claims t) (search-at t) search′.Post search-Inv-loop search-μ-loop
+  search-mul-length-in : At search-lts.Need-mul-length-in
   search-mul-length-in c = omega (arith, place (c .before))
 
-  search-element-copy-out-length-in : search-lts.Need-element-copy-out-length-in (search-claims t) (search-at t) search′.Post search-Inv-loop search-μ-loop
+  search-element-copy-out-length-in : At search-lts.Need-element-copy-out-length-in
   search-element-copy-out-length-in c = omega (arith, place (c .before))
 
-  search-length-in-requires : search-lts.Need-length-in-requires (search-claims t) (search-at t) search′.Post search-Inv-loop search-μ-loop
+  search-length-in-requires : At search-lts.Need-length-in-requires
   search-length-in-requires c κs = search needs
 
-  search-step-requires : search-lts.Need-step-requires (search-claims t) (search-at t) search′.Post search-Inv-loop search-μ-loop
+  search-step-requires : At search-lts.Need-step-requires
   search-step-requires c κs =
       let r = read c in
       let u = turn r in (
@@ -201,23 +192,23 @@ module _ (t : ℕ) where
         ready u (omega (arith, r .length-in .ensures, c .before .before .before .before .before .if2 .taken)) (omega (arith, r .before .before .if1 .left)),
       )
 
-  search-mul-wide : search-lts.Need-mul-wide (search-claims t) (search-at t) search′.Post search-Inv-loop search-μ-loop
+  search-mul-wide : At search-lts.Need-mul-wide
   search-mul-wide c = omega (arith, place (turn (c .before)))
 
-  search-element-copy-out-wide : search-lts.Need-element-copy-out-wide (search-claims t) (search-at t) search′.Post search-Inv-loop search-μ-loop
+  search-element-copy-out-wide : At search-lts.Need-element-copy-out-wide
   search-element-copy-out-wide c = omega (arith, place (turn (c .before)))
 
-  search-wide-requires : search-lts.Need-wide-requires (search-claims t) (search-at t) search′.Post search-Inv-loop search-μ-loop
+  search-wide-requires : At search-lts.Need-wide-requires
   search-wide-requires c κs = search needs
 
-  search-loop-less : search-lts.Need-loop-less (search-claims t) (search-at t) search′.Post search-Inv-loop search-μ-loop
+  search-loop-less : At search-lts.Need-loop-less
   search-loop-less c =
       let l = turned c .before .loop in
       let e : c .before .before .if2 .next ≡ l .next = ⊎-elim (λ w. w .11 ∙ w .6 .ensures .next) (λ w. w .1) (c .before .before .if2 .came) in
       let r : c .wide .result ≡ getD (l .next) (l .i) 0 = c .wide .ensures ∙ ap (λ (v : List ℕ). getD v (l .i) 0) e in
       omega (arith, onwards (turned c), r, turned c .loop-test .taken)
 
-  search-loop-again : search-lts.Need-loop-again (search-claims t) (search-at t) search′.Post search-Inv-loop search-μ-loop
+  search-loop-again : At search-lts.Need-loop-again
   search-loop-again c =
       let s = begun (turned c) in
       let a = s .args in
@@ -238,13 +229,13 @@ module _ (t : ℕ) where
       (c .wide .ensures ∙ ap (λ (v : List ℕ). getD v (l .i) 0) (w .1))))
       (j .came)
 
-  search-same-length-3 : search-lts.Need-same-length-3 (search-claims t) (search-at t) search′.Post search-Inv-loop search-μ-loop
+  search-same-length-3 : At search-lts.Need-same-length-3
   search-same-length-3 c = c .before .loop .inv .out
 
-  search-same-length-4 : search-lts.Need-same-length-4 (search-claims t) (search-at t) search′.Post search-Inv-loop search-μ-loop
+  search-same-length-4 : At search-lts.Need-same-length-4
   search-same-length-4 c = c .before .loop .inv .lives
 
-  search-returns-2 : search-lts.Need-returns-2 (search-claims t) (search-at t) search′.Post search-Inv-loop search-μ-loop
+  search-returns-2 : At search-lts.Need-returns-2
   search-returns-2 c =
       let s = entered (c .before) in
       going-end (asked s) (fit s) (c .before .loop .inv) (c .loop-test .left)
@@ -252,82 +243,65 @@ module _ (t : ℕ) where
 -- ---- step: what is known at its places, `Begun′` where it begins, `Lengthy` where the record's length is read, `Goes-on` where the record is unfinished,
 -- `Aimed` where its target is read, `Out` where it is out of its list, `Asking′` where the search from it is called, `Back` after that
 module _ (t : ℕ) where
-  abbrev Begun′ : Type 0
-  Begun′ = step-lts.Start (step-claims t) (step-at t) step.Post
+  -- a place, or what is owed there, as in search
+  abbrev At′ : (step-lts.Claims → In 7 step-kinds.ps → PostT 7 step-kinds.ps step-kinds.r → Type 0) → Type 0
+  At′ place = place (step-claims t) (step-at t) step.Post
 
-  abbrev Goes-on : Type 0
-  Goes-on = step-lts.Else1 (step-claims t) (step-at t) step.Post
-
-  abbrev Out : Type 0
-  Out = step-lts.After-unlink (step-claims t) (step-at t) step.Post
-
-  abbrev Back : Type 0
-  Back = step-lts.Joined2 (step-claims t) (step-at t) step.Post
-
-  abbrev Lengthy : Type 0
-  Lengthy = step-lts.After-length-in (step-claims t) (step-at t) step.Post
-
-  abbrev Aimed : Type 0
-  Aimed = step-lts.After-target-in (step-claims t) (step-at t) step.Post
-
-  abbrev Asking′ : Type 0
-  Asking′ = step-lts.After-search-arg5 (step-claims t) (step-at t) step.Post
-
-  abbrev begun′ : Lengthy → Begun′
+  abbrev begun′ : At′ Lengthy → At′ Begun′
   begun′ c = c .before .before .before .before .before
 
-  abbrev begun-on : Goes-on → Begun′
-  begun-on c = begun′ (c .before)
-
-  abbrev on : Aimed → Goes-on
+  abbrev on : At′ Aimed → At′ Goes-on
   on c = c .before .before .before .before
 
-  abbrev begun-aimed : Aimed → Begun′
+  abbrev begun-on : At′ Goes-on → At′ Begun′
+  begun-on c = begun′ (c .before)
+
+  abbrev begun-aimed : At′ Aimed → At′ Begun′
   begun-aimed c = begun-on (on c)
 
-  abbrev aimed-lent : step-lts.After-unlink-arg2 (step-claims t) (step-at t) step.Post → Aimed
+  abbrev aimed-lent : At′ step-lts.After-unlink-arg2 → At′ Aimed
   aimed-lent c = c .before .before .before .before .before .before
 
-  abbrev aimed : Out → Aimed
+  abbrev aimed : At′ Out → At′ Aimed
   aimed c = aimed-lent (c .before)
 
-  abbrev begun-out : Out → Begun′
+  abbrev begun-out : At′ Out → At′ Begun′
   begun-out c = begun-aimed (aimed c)
 
-  abbrev out : Back → Out
+  abbrev out : At′ Back → At′ Out
   out c = c .before .before .before
 
-  abbrev begun-back : Back → Begun′
+  abbrev begun-back : At′ Back → At′ Begun′
   begun-back c = begun-out (out c)
 
-  abbrev out-asking : Asking′ → Out
+  abbrev out-asking : At′ Asking′ → At′ Out
   out-asking c = c .before .before .before .before .before .before .before .before
 
-  abbrev begun-asking : Asking′ → Begun′
+  abbrev begun-asking : At′ Asking′ → At′ Begun′
   begun-asking c = begun-out (out-asking c)
 
-  abbrev finished : step-lts.After-finish-arg3 (step-claims t) (step-at t) step.Post → Lengthy
+  abbrev finished : At′ step-lts.After-finish-arg3 → At′ Lengthy
   finished c = c .before .before .before .before
 
-  abbrev table′ : Begun′ → Records
+  abbrev table′ : At′ Begun′ → Records
   table′ c = records (c .args .owners .now) (c .args .fields .now)
 
-  abbrev lent′ : Begun′ → Memory
+  abbrev lent′ : At′ Begun′ → Memory
   lent′ c = memory (c .args .next .now) (c .args .prev .now) (c .args .out .now) (c .args .lives .now) (c .args .figures .now) (c .args .left)
 
-  abbrev bits′ : Begun′ → List ℕ
+  abbrev bits′ : At′ Begun′ → List ℕ
   bits′ c = addressOf (c .args .high) (c .args .low)
 
-  given : (c : Begun′) → Ready (table′ c) (lent′ c) (c .args .bound) (c .args .i)
+  given : (c : At′ Begun′) → Ready (table′ c) (lent′ c) (c .args .bound) (c .args .i)
   given c = c .pre .1
 
-  index : (c : Begun′) → c .args .i < maxRecords
+  index : (c : At′ Begun′) → c .args .i < maxRecords
   index c = omega (arith, given c .fit .numbered .owned .few, given c .there)
 
-  unfinished : (c : Goes-on) → 0 < lengthOf (table′ (begun-on c)) (begun-on c .args .i)
+  unfinished : (c : At′ Goes-on) → 0 < lengthOf (table′ (begun-on c)) (begun-on c .args .i)
   unfinished c = omega (arith, c .before .length-in .ensures, c .if1 .left)
 
-  abbrev taken : (c : Out) → Taken (lent′ (begun-out c)) (begun-out c .args .i)
+  abbrev taken : (c : At′ Out) → Taken (lent′ (begun-out c)) (begun-out c .args .i)
   taken c = record {
     p = c .before .before .before .before .before .wide .result;
     q = c .before .before .before .wide2 .result;
@@ -340,23 +314,23 @@ module _ (t : ℕ) where
   }
 
   -- the memory with the record out, and the state that the search from it comes to
-  abbrev bare : Out → Memory
+  abbrev bare : At′ Out → Memory
   bare c = without (lent′ (begun-out c)) (begun-out c .args .i) (taken c)
 
-  abbrev expected : Out → State
+  abbrev expected : At′ Out → State
   expected c = let s = begun-out c in onward (table′ s) (lent′ s) (s .args .bound) (s .args .i) (bits′ s) (s .args .ttl) (taken c)
 
   -- the node of its target
-  ends : (c : Out) → length (begun-out c .args .owners .now) + aimed c .target-in .result < maxNodes
+  ends : (c : At′ Out) → length (begun-out c .args .owners .now) + aimed c .target-in .result < maxNodes
   ends c =
       let o = given (begun-out c) in
       omega (arith, aimed c .target-in .ensures, o .fit .numbered .owned .few, target-name o (unfinished (on (aimed c))))
 
-  abbrev left-here : Back → Memory
+  abbrev left-here : At′ Back → Memory
   left-here c = memory (c .if2 .next) (c .if2 .prev) (c .if2 .out) (c .if2 .lives) (c .if2 .figures) (c .if2 .r)
 
   -- it was searched from there on, or there was nothing to search
-  been : (c : Back) → Done (bare (out c)) (left-here c) (expected (out c))
+  been : (c : At′ Back) → Done (bare (out c)) (left-here c) (expected (out c))
   been c =
       let s = begun-back c in
       let a = s .args in
@@ -375,39 +349,39 @@ module _ (t : ℕ) where
       (c .if2 .came)
 
   -- ---- and what it owes
-  step-mul-head : step-lts.Need-mul-head (step-claims t) (step-at t) step.Post
+  step-mul-head : At′ step-lts.Need-mul-head
   step-mul-head c = omega (arith, index (c .before .before .before))
 
-  step-element-copy-out-head : step-lts.Need-element-copy-out-head (step-claims t) (step-at t) step.Post
+  step-element-copy-out-head : At′ step-lts.Need-element-copy-out-head
   step-element-copy-out-head c = omega (arith, index (c .before .before .before))
 
-  step-length-in-requires : step-lts.Need-length-in-requires (step-claims t) (step-at t) step.Post
+  step-length-in-requires : At′ step-lts.Need-length-in-requires
   step-length-in-requires c κs = search needs
 
-  step-joined-requires : step-lts.Need-joined-requires (step-claims t) (step-at t) step.Post
+  step-joined-requires : At′ step-lts.Need-joined-requires
   step-joined-requires c κs = (index (begun-on c), (given (begun-on c) .fit .some, given (begun-on c) .fit .bounded))
 
-  step-ttl-in-requires : step-lts.Need-ttl-in-requires (step-claims t) (step-at t) step.Post
+  step-ttl-in-requires : At′ step-lts.Need-ttl-in-requires
   step-ttl-in-requires c κs = search needs
 
-  step-lesser-requires : step-lts.Need-lesser-requires (step-claims t) (step-at t) step.Post
+  step-lesser-requires : At′ step-lts.Need-lesser-requires
   step-lesser-requires c κs = search needs
 
-  step-sub-rest : step-lts.Need-sub-rest (step-claims t) (step-at t) step.Post
+  step-sub-rest : At′ step-lts.Need-sub-rest
   step-sub-rest c = omega (arith, given (begun′ c) .counts)
 
-  step-finish-requires : step-lts.Need-finish-requires (step-claims t) (step-at t) step.Post
+  step-finish-requires : At′ step-lts.Need-finish-requires
   step-finish-requires c κs =
       let f = given (begun′ (finished c)) .fit in
       ((index (begun′ (finished c)), f .some, f .bounded), (f .places, f .room, f .level, f .ordered))
 
-  step-same-length : step-lts.Need-same-length (step-claims t) (step-at t) step.Post
+  step-same-length : At′ step-lts.Need-same-length
   step-same-length c = search needs
 
-  step-same-length-2 : step-lts.Need-same-length-2 (step-claims t) (step-at t) step.Post
+  step-same-length-2 : At′ step-lts.Need-same-length-2
   step-same-length-2 c = search needs
 
-  step-returns : step-lts.Need-returns (step-claims t) (step-at t) step.Post
+  step-returns : At′ step-lts.Need-returns
   step-returns c =
       let f = c .before .before .before .before in
       let l = finished (f .before) in
@@ -415,28 +389,28 @@ module _ (t : ℕ) where
       let k = f .finish .ensures in
       done-finished (given s) (bits′ s) _ _ _ (s .args .ttl) (sym (l .length-in .ensures) ∙ f .before .before .before .before .if1 .taken) (k .0) (k .1) (k .2)
 
-  step-target-in-requires : step-lts.Need-target-in-requires (step-claims t) (step-at t) step.Post
+  step-target-in-requires : At′ step-lts.Need-target-in-requires
   step-target-in-requires c κs = search needs
 
-  step-mul-wide : step-lts.Need-mul-wide (step-claims t) (step-at t) step.Post
+  step-mul-wide : At′ step-lts.Need-mul-wide
   step-mul-wide c = omega (arith, index (begun-aimed c))
 
-  step-element-copy-out-wide : step-lts.Need-element-copy-out-wide (step-claims t) (step-at t) step.Post
+  step-element-copy-out-wide : At′ step-lts.Need-element-copy-out-wide
   step-element-copy-out-wide c = omega (arith, index (begun-aimed c))
 
-  step-wide-requires : step-lts.Need-wide-requires (step-claims t) (step-at t) step.Post
+  step-wide-requires : At′ step-lts.Need-wide-requires
   step-wide-requires c κs = search needs
 
-  step-mul-wide-2 : step-lts.Need-mul-wide-2 (step-claims t) (step-at t) step.Post
+  step-mul-wide-2 : At′ step-lts.Need-mul-wide-2
   step-mul-wide-2 c = omega (arith, index (begun-aimed (c .before .before)))
 
-  step-element-copy-out-wide-2 : step-lts.Need-element-copy-out-wide-2 (step-claims t) (step-at t) step.Post
+  step-element-copy-out-wide-2 : At′ step-lts.Need-element-copy-out-wide-2
   step-element-copy-out-wide-2 c = omega (arith, index (begun-aimed (c .before .before)))
 
-  step-wide-requires-2 : step-lts.Need-wide-requires-2 (step-claims t) (step-at t) step.Post
+  step-wide-requires-2 : At′ step-lts.Need-wide-requires-2
   step-wide-requires-2 c κs = search needs
 
-  step-unlink-requires : step-lts.Need-unlink-requires (step-claims t) (step-at t) step.Post
+  step-unlink-requires : At′ step-lts.Need-unlink-requires
   step-unlink-requires c κs =
       let o = given (begun-aimed (aimed-lent c)) in (
         o .fit .nodes,
@@ -445,19 +419,19 @@ module _ (t : ℕ) where
         q-node o _ (c .before .before .wide2 .ensures),
       )
 
-  step-add-ends : step-lts.Need-add-ends (step-claims t) (step-at t) step.Post
+  step-add-ends : At′ step-lts.Need-add-ends
   step-add-ends c = omega (arith, ends c)
 
-  step-mul-wide-3 : step-lts.Need-mul-wide-3 (step-claims t) (step-at t) step.Post
+  step-mul-wide-3 : At′ step-lts.Need-mul-wide-3
   step-mul-wide-3 c = omega (arith, ends c)
 
-  step-element-copy-out-wide-3 : step-lts.Need-element-copy-out-wide-3 (step-claims t) (step-at t) step.Post
+  step-element-copy-out-wide-3 : At′ step-lts.Need-element-copy-out-wide-3
   step-element-copy-out-wide-3 c = omega (arith, ends c)
 
-  step-wide-requires-3 : step-lts.Need-wide-requires-3 (step-claims t) (step-at t) step.Post
+  step-wide-requires-3 : At′ step-lts.Need-wide-requires-3
   step-wide-requires-3 c κs = search needs
 
-  step-search-requires : step-lts.Need-search-requires (step-claims t) (step-at t) step.Post
+  step-search-requires : At′ step-lts.Need-search-requires
   step-search-requires c κs =
       let d = aimed (out-asking c) in
       let b = on d .before .length-in .ensures in
@@ -471,7 +445,7 @@ module _ (t : ℕ) where
         ),
       )
 
-  step-relink-requires : step-lts.Need-relink-requires (step-claims t) (step-at t) step.Post
+  step-relink-requires : At′ step-lts.Need-relink-requires
   step-relink-requires c κs =
       let b = c .before .before in
       let s = begun-back b in
@@ -485,13 +459,13 @@ module _ (t : ℕ) where
         omega (arith, index s),
       )
 
-  step-same-length-3 : step-lts.Need-same-length-3 (step-claims t) (step-at t) step.Post
+  step-same-length-3 : At′ step-lts.Need-same-length-3
   step-same-length-3 c = ⊎-elim (λ w. ap length (w .13) ∙ w .6 .kept .1 .1 .1 .1 .1 .1 .1 .1 .1 .1 .0) (λ w. ap length (w .3)) (c .before .before .before .if2 .came)
 
-  step-same-length-4 : step-lts.Need-same-length-4 (step-claims t) (step-at t) step.Post
+  step-same-length-4 : At′ step-lts.Need-same-length-4
   step-same-length-4 c = ⊎-elim (λ w. ap length (w .14) ∙ w .6 .kept .1 .1 .1 .1 .1 .1 .1 .1 .1 .1 .1 .0) (λ w. ap length (w .4)) (c .before .before .before .if2 .came)
 
-  step-returns-2 : step-lts.Need-returns-2 (step-claims t) (step-at t) step.Post
+  step-returns-2 : At′ step-lts.Need-returns-2
   step-returns-2 c =
       let b = c .before .before .before in
       let s = begun-back b in
