@@ -13,7 +13,7 @@ use Rattle.plan.specs.Layout.{a6, prefixOf, addressOf, ownerSlot, targetSlot, t
 abbrev pub leads : List ℕ → Bool
 leads r = isA6 r && ltb 0 (prefixOf r)
 
--- r is such a record of x (unfinished is 01's term)
+-- r is an unfinished A6 record of x (unfinished is 01's term)
 unfoldable pub unfinished : List ℕ → List ℕ → Bool
 unfinished x r = leads r && sameName (ownerOf r) x
 
@@ -37,7 +37,7 @@ placeOf x t i = pick (unfinished x (recordAt t i)) (upTo (countOf t) (madeOf t (
 unfoldable pub foldOf : List ℕ → List ℕ → List (List ℕ)
 foldOf x t = upTo (countOf t) (placeOf x t)
 
--- p is such a record with the target x
+-- p is an A6 record with the target x; a finished record has no target
 unfoldable pub refers : List ℕ → List ℕ → Bool
 refers x p = leads p && sameName (targetOf p) x
 
