@@ -80,7 +80,6 @@ clear c =
     unused-none (a .s .now) (a .at) (k .count .result) (last k) (l .result) (count-is k) (omega arith) (l .ensures) (c .if4 .left)
 
 -- ---- and what it owes
-
 add-a : tie.Need-add-a
 add-a c = search needs
 

@@ -41,7 +41,6 @@ ordinary c =
     record { some = o .0; first = f; kind = is-ordinary (firstOf xs) f; long = o .1; size = omega arith; run = run-ordinary (begun c .args .run) xs f }
 
 -- ---- and what it owes
-
 shared-slice-read-x : tie.Need-shared-slice-read-x
 shared-slice-read-x c = search needs
 

@@ -35,7 +35,6 @@ room : (c : Looping) → length (c .loop .out) ≡ length (c .before .before .be
 room c = c .loop .inv .0 .room ∙ sym (c .loop .inv .2)
 
 -- ---- and what it owes
-
 loop-holds : tie.Need-loop-holds Inv-loop μ-loop
 loop-holds c =
     let a = c .before .before .args in

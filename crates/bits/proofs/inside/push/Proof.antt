@@ -36,7 +36,6 @@ octet-is : (c : tie.After-wide2) → let p = filled c .args .p in (p .value * 2 
 octet-is c = omega (arith, shift (filled c) (8 - filled c .args .p .have) (omega arith), c .wide2 .ensures .0)
 
 -- ---- and what it owes
-
 add-total : tie.Need-add-total
 add-total c = search needs
 
