@@ -8,6 +8,7 @@ use Rattle.numbering.specs.Buckets.{maxNames}
 use Rattle.numbering.proofs.NumberingLaws.{Going, going-none, going-before, going-more, going-all}
 use Rattle.numbering.proofs.inside.number_all.Statement.{statement}
 use Rattle.numbering.proofs.inside.number_all.Tie as tie
+use Rattle.numbering.proofs.inside.number_all.Tie.{Start as Begun, At-loop as Looping, In-loop as Turn, After-meet-owner as Owner, After-meet-target as Target}
 
 abbrev Inv-loop : tie.InvT-loop
 Inv-loop table own₀ target₀ head₀ link₀ places₀ n count₀ i₀ own target head link places count i =
@@ -17,118 +18,106 @@ abbrev μ-loop : tie.MeasureT-loop
 μ-loop table own₀ target₀ head₀ link₀ places₀ n count₀ i₀ own target head link places count i = n - i
 
 -- ---- its places: where it begins, where the loop is tested, a turn of it, where the owner's name is met, and where the target's is
-abbrev Begun : Type 0
-Begun = tie.Start Inv-loop μ-loop
+abbrev At : (tie.InvT-loop → tie.MeasureT-loop → Type 0) → Type 0
+At place = place Inv-loop μ-loop
 
-abbrev Looping : Type 0
-Looping = tie.At-loop Inv-loop μ-loop
-
-abbrev Turn : Type 0
-Turn = tie.In-loop Inv-loop μ-loop
-
-abbrev Owner : Type 0
-Owner = tie.After-meet-owner Inv-loop μ-loop
-
-abbrev Target : Type 0
-Target = tie.After-meet-target Inv-loop μ-loop
-
-abbrev begun-counted : tie.After-count Inv-loop μ-loop → Begun
+abbrev begun-counted : At tie.After-count → At Begun
 begun-counted c = c .before .before .before .before .before .before .before
 
-abbrev begun : Looping → Begun
+abbrev begun : At Looping → At Begun
 begun c = begun-counted (c .before)
 
-abbrev turn-lent : tie.After-meet-owner-arg4 Inv-loop μ-loop → Turn
+abbrev turn-lent : At tie.After-meet-owner-arg4 → At Turn
 turn-lent c = c .before .before .before .before
 
-abbrev turn : Owner → Turn
+abbrev turn : At Owner → At Turn
 turn c = turn-lent (c .before)
 
-abbrev owner : tie.After-slice-known8 Inv-loop μ-loop → Owner
+abbrev owner : At tie.After-slice-known8 → At Owner
 owner c = c .before .before .before .before .before .before
 
-abbrev owner-lent : tie.After-meet-target-arg3 Inv-loop μ-loop → Owner
+abbrev owner-lent : At tie.After-meet-target-arg3 → At Owner
 owner-lent c = owner (c .before .before .before)
 
-abbrev owner-before : Target → Owner
+abbrev owner-before : At Target → At Owner
 owner-before c = owner-lent (c .before)
 
-abbrev target : tie.After-slice-known11 Inv-loop μ-loop → Target
+abbrev target : At tie.After-slice-known11 → At Target
 target c = c .before .before .before .before .before .before
 
-abbrev turned : tie.After-slice-known11 Inv-loop μ-loop → Turn
+abbrev turned : At tie.After-slice-known11 → At Turn
 turned c = turn (owner-before (target c))
 
 -- in a turn there is a record i
-here : (c : Turn) → c .before .loop .i < countOf (begun (c .before) .args .table .now)
+here : (c : At Turn) → c .before .loop .i < countOf (begun (c .before) .args .table .now)
 here c = omega arith
 
-few : (c : Turn) → c .before .loop .i < maxRecords
+few : (c : At Turn) → c .before .loop .i < maxRecords
 few c = omega (arith, order-count (begun (c .before) .args .table .now) (begun (c .before) .pre .0 .0))
 
 -- ---- and what it owes
-count-requires : tie.Need-count-requires Inv-loop μ-loop
+count-requires : At tie.Need-count-requires
 count-requires c κs = tt
 
-loop-holds : tie.Need-loop-holds Inv-loop μ-loop
+loop-holds : At tie.Need-loop-holds
 loop-holds c = (c .count .ensures, going-none (begun-counted c .pre .0 .1))
 
-meet-owner-requires : tie.Need-meet-owner-requires Inv-loop μ-loop
+meet-owner-requires : At tie.Need-meet-owner-requires
 meet-owner-requires c κs =
     let t = turn-lent c in
     let p = begun (t .before) .pre in
     let g = t .before .loop .inv .1 in
     ((p .0 .0, g .listing), (here t, omega (arith, few t), going-before g (here t) (p .1 .0)))
 
-mul-own : tie.Need-mul-own Inv-loop μ-loop
+mul-own : At tie.Need-mul-own
 mul-own c = omega (arith, few (turn (owner c)))
 
-slice-write-own : tie.Need-slice-write-own Inv-loop μ-loop
+slice-write-own : At tie.Need-slice-write-own
 slice-write-own c = omega arith
 
-meet-target-requires : tie.Need-meet-target-requires Inv-loop μ-loop
+meet-target-requires : At tie.Need-meet-target-requires
 meet-target-requires c κs =
     let o = owner-lent c .meet-owner in
     let t = turn (owner-lent c) in
     let r : o .result .count < maxNames = omega (arith, o .ensures .most, t .before .loop .inv .1 .less, few t) in
     ((begun (t .before) .pre .0 .0, o .ensures .listing), (here t, r))
 
-mul-target : tie.Need-mul-target Inv-loop μ-loop
+mul-target : At tie.Need-mul-target
 mul-target c = omega (arith, few (turned c))
 
-slice-write-target : tie.Need-slice-write-target Inv-loop μ-loop
+slice-write-target : At tie.Need-slice-write-target
 slice-write-target c =
     let t = turned c in
     omega (arith, here t, t .before .loop .inv .1 .target-kept, begun (t .before) .pre .1 .1)
 
-add-i : tie.Need-add-i Inv-loop μ-loop
+add-i : At tie.Need-add-i
 add-i c = omega arith
 
-loop-less : tie.Need-loop-less Inv-loop μ-loop
+loop-less : At tie.Need-loop-less
 loop-less c = omega arith
 
-loop-again : tie.Need-loop-again Inv-loop μ-loop
+loop-again : At tie.Need-loop-again
 loop-again c =
     let t = turned c in
     let l = t .before .loop .inv in
     (l .0, going-more (l .1) (here t) (owner-before (target c) .meet-owner .ensures) (target c .meet-target .ensures))
 
-same-length : tie.Need-same-length Inv-loop μ-loop
+same-length : At tie.Need-same-length
 same-length c = c .before .loop .inv .1 .own-kept
 
-same-length-2 : tie.Need-same-length-2 Inv-loop μ-loop
+same-length-2 : At tie.Need-same-length-2
 same-length-2 c = c .before .loop .inv .1 .target-kept
 
-same-length-3 : tie.Need-same-length-3 Inv-loop μ-loop
+same-length-3 : At tie.Need-same-length-3
 same-length-3 c = c .before .loop .inv .1 .listing .heads ∙ sym (begun (c .before) .pre .0 .1 .heads)
 
-same-length-4 : tie.Need-same-length-4 Inv-loop μ-loop
+same-length-4 : At tie.Need-same-length-4
 same-length-4 c = c .before .loop .inv .1 .listing .links ∙ sym (begun (c .before) .pre .0 .1 .links)
 
-same-length-5 : tie.Need-same-length-5 Inv-loop μ-loop
+same-length-5 : At tie.Need-same-length-5
 same-length-5 c = c .before .loop .inv .1 .listing .room ∙ sym (begun (c .before) .pre .0 .1 .room)
 
-returns : tie.Need-returns Inv-loop μ-loop
+returns : At tie.Need-returns
 returns c =
     let l = c .before .loop in
     let h : l .i ≡ countOf (begun (c .before) .args .table .now) = let u = l .inv .1 .upto in omega arith in

@@ -13,25 +13,15 @@ Inv-loop name at₀ sum₀ at sum = Counting name at sum
 abbrev μ-loop : tie.MeasureT-loop
 μ-loop name at₀ sum₀ at sum = length name - at
 
--- ---- the places: `Looping` where the loop is tested, `Passed` where a label is passed
-abbrev Looping : Type 0
-Looping = tie.At-loop Inv-loop μ-loop
-
-abbrev Passed : Type 0
-Passed = tie.After-pass Inv-loop μ-loop
-
-abbrev begun : Looping → tie.Start Inv-loop μ-loop
-begun c = c .before .before
-
-abbrev looping : Passed → Looping
+-- from where a label is passed back to the loop
+abbrev looping : tie.After-pass Inv-loop μ-loop → tie.At-loop Inv-loop μ-loop
 looping c = c .before .before .before
 
--- ---- and what it owes
 loop-holds : tie.Need-loop-holds Inv-loop μ-loop
 loop-holds c = counting-start (c .before .args .name .now) (c .before .pre)
 
 shared-slice-read-if1 : tie.Need-shared-slice-read-if1 Inv-loop μ-loop
-shared-slice-read-if1 c = let l = c .before in begins-inside (begun l .args .name .now) (l .loop .at) (l .loop .inv .begins)
+shared-slice-read-if1 c = let l = c .before in begins-inside (l .before .before .args .name .now) (l .loop .at) (l .loop .inv .begins)
 
 pass-requires : tie.Need-pass-requires Inv-loop μ-loop
 pass-requires c κs = (c .before .before .loop .inv .begins, omega (arith, c .if1 .taken))
