@@ -1,7 +1,10 @@
 pub mod SuffixLaws
+pub mod EndingLaws
 pub mod ReadLaws
+pub mod AcceptedLaws
 pub mod WriteLaws
 pub mod RoundLaws
+pub mod DataLaws
 pub mod RoundTrip
 pub mod Examples
 pub mod Computing

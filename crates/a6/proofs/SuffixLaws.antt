@@ -1,16 +1,17 @@
--- The suffix of an address: what a join with zeros makes of it.
+-- The suffix of an address: what a join with zeros makes of it, and how the code makes it.
 use Prim.Native.Nat.{ℕ, zero, suc, _+_, _-_, _*_, _/_, _%_, _^_, _≤_, _<_, min}
 use mathlib.Core.Path.{_≡_, refl, ap, _∙_, sym}
 use mathlib.Core.Bool.{Bool, true, false}
-use mathlib.Core.List.{List, [], _∷_, _++_}
+use mathlib.Core.List.{List, [], _∷_, _++_, append-nil}
 use lib.Dec.{ltb}
-use lib.ListN.{length, getD, drop, length-append, length-drop, List·getD-append}
-use lib.Seq.{getD-drop, getD-append-add, ext-getD}
+use lib.ListN.{length, getD, take, drop, set, length-append, length-drop, List·getD-append}
+use lib.Bits.{bitAnd, and-mask}
+use lib.Seq.{getD-drop, getD-append-add, ext-getD, length-take-le, getD-at, set-at, paste}
 use native.Mathlib.Omega.{arith}
 use native.Mathlib.Nat.{zero-div, zero-mul, zero-add, zero-mod, mod-one}
 use borrow.Author.Tests.{ltb-true, ltb-false}
 use Rattle.octets.specs.Octets.{blank, Small}
-use Rattle.octets.proofs.OctetLaws.{length-blank}
+use Rattle.octets.proofs.OctetLaws.{length-blank, small-drop, small-take, drop-blank}
 use Rattle.octets.proofs.SmallLaws.{getD-blank, small-blank}
 use Rattle.address.specs.Address.{bitAt, joinOf, clearTo}
 use Rattle.address.proofs.AddressLaws.{bit-ext, join-length, join-small, join-bit-high, join-bit-low}
@@ -18,6 +19,7 @@ use Rattle.address.proofs.ClearLaws.{clear-bits, clear-blank}
 use Rattle.address.proofs.JoinLaws.{join-octet}
 use Rattle.a6.specs.Data.{suffixOctets}
 use Rattle.a6.specs.Standard.{withoutPadding}
+use Rattle.a6.specs.Parts.{lastAt}
 
 -- zeros, and then the bits of a from l on: an octet keeps its bits from there on
 module _ (a : List ℕ) (l : ℕ) (long : length a ≡ 16) where
@@ -121,3 +123,73 @@ module _ (l : ℕ) (a : List ℕ) (low : l ≤ 128) (long : length a ≡ 16) (sm
 
   pub join-back : clearTo l a ≡ true → joinOf (blank 16) (blank (16 - suffixOctets l) ++ drop (16 - suffixOctets l) a) l ≡ a
   join-back c = let k : 16 - suffixOctets l ≡ l / 8 = omega arith in rw k (join-own ∙ join-clear c)
+
+-- octets copied to the last places over zeros, and the zeros before them
+take-blank : (k n : ℕ) → k ≤ n → take k (blank n) ≡ blank k
+unfolding blank
+take-blank zero n h = refl
+take-blank (suc k) zero h = let z : ⊥ = omega arith in absurd z
+take-blank (suc k) (suc n) h = ap (λ (xs : List ℕ). 0 ∷ xs) (take-blank k n (omega arith))
+
+copied-last : (xs : List ℕ) (n : ℕ) → n ≤ 16 → paste (blank 16) (16 - n) xs n ≡ blank (16 - n) ++ take n xs
+unfolding blank
+copied-last xs n h =
+    let k : 16 - n + n ≡ 16 = omega arith in
+    rw (take-blank (16 - n) 16 (omega arith), k, drop-blank 16 16, append-nil (blank (16 - n) ++ take n xs))
+
+-- the octets from place `at` on as the code copies them over zeros, n of them
+pub record Copied (octets out : List ℕ) (at l n : ℕ) : Type 0 where
+  pub low : l ≤ 128
+  pub inside : at + suffixOctets l ≤ length octets
+  pub small : Small octets
+  pub count : n ≡ suffixOctets l
+  pub made : out ≡ paste (blank 16) (16 - n) (drop at octets) n
+
+-- the address as the code makes it: where there are such octets, the first of them loses its first bits
+module _ (octets out : List ℕ) (at l n : ℕ) (k : Copied octets out at l n) where
+  abbrev suffix : List ℕ
+  suffix = take (suffixOctets l) (drop at octets)
+
+  long : length suffix ≡ n
+  long = length-take-le (suffixOctets l) (drop at octets) (omega (arith, k .inside, length-drop at octets)) ∙ sym (k .count)
+
+  parts : (s : List ℕ) → suffix ≡ s → (out ≡ blank (16 - n) ++ s) × (joinOf (blank 16) (lastAt octets at l) l ≡ blank (16 - n) ++ withoutPadding (l % 8) s)
+  parts s q =
+      let t = small-take (suffixOctets l) (drop at octets) (small-drop at octets (k .small)) in (
+        k .made ∙ copied-last (drop at octets) n (omega (arith, k .count)) ∙ ap (λ (m : ℕ). blank (16 - n) ++ take m (drop at octets)) (k .count) ∙ rw q,
+        join-suffix l suffix (k .low) (long ∙ k .count) t ∙ rw (q, k .count),
+      )
+
+  pub address-none : n ≡ 0 → out ≡ joinOf (blank 16) (lastAt octets at l) l
+  unfolding withoutPadding
+  address-none z = go suffix refl
+    where
+      go : (s : List ℕ) → suffix ≡ s → out ≡ joinOf (blank 16) (lastAt octets at l) l
+      go [] q = parts [] q .0 ∙ sym (parts [] q .1)
+      go (x ∷ xs) q = let v : ⊥ = omega (arith, long, ap length q) in absurd v
+
+  pub address-some : (n ≡ 0 → ⊥) → (v : ℕ) → v ≡ getD out (16 - n) 0 % 2 ^ (8 - l % 8) → set out (16 - n) v ≡ joinOf (blank 16) (lastAt octets at l) l
+  unfolding withoutPadding
+  address-some z v w = go suffix refl
+    where
+      go : (s : List ℕ) → suffix ≡ s → set out (16 - n) v ≡ joinOf (blank 16) (lastAt octets at l) l
+      go [] q = let u : ⊥ = omega (arith, long, ap length q, z) in absurd u
+      go (x ∷ xs) q =
+          let a = parts (x ∷ xs) q in
+          let g : getD out (16 - n) 0 ≡ x = rw (a .0) (getD-at (blank (16 - n)) x xs 0 (16 - n) (length-blank (16 - n))) in
+          rw (w, g, a .0) (set-at (blank (16 - n)) x xs (x % 2 ^ (8 - l % 8)) (16 - n) (length-blank (16 - n))) ∙ sym (a .1)
+
+-- the ones that leave the first p bits of an octet out
+ones : (p : ℕ) → p < 8 → 255 / 2 ^ p ≡ 2 ^ (8 - p) - 1
+ones zero h = refl
+ones (suc zero) h = refl
+ones (suc (suc zero)) h = refl
+ones (suc (suc (suc zero))) h = refl
+ones (suc (suc (suc (suc zero)))) h = refl
+ones (suc (suc (suc (suc (suc zero))))) h = refl
+ones (suc (suc (suc (suc (suc (suc zero)))))) h = refl
+ones (suc (suc (suc (suc (suc (suc (suc zero))))))) h = refl
+ones (suc (suc (suc (suc (suc (suc (suc (suc p)))))))) h = let z : ⊥ = omega arith in absurd z
+
+pub mask-octet : (x p : ℕ) → p < 8 → bitAnd x (255 / 2 ^ p) ≡ x % 2 ^ (8 - p)
+mask-octet x p h = rw (ones p h) (and-mask x (8 - p))

@@ -1,8 +1,15 @@
--- The code's own: what private functions are given and promise. Nothing that a reader must believe.
-use Prim.Native.Nat.{ℕ}
-use mathlib.Core.List.{List, _++_}
-use lib.ListN.{length, drop}
+-- The code's own: what functions of our own layers are given and promise. Nothing that a reader must believe.
+use Prim.Native.Nat.{ℕ, _+_, _-_, _≤_}
+use mathlib.Core.Path.{_≡_}
+use mathlib.Core.Bool.{Bool}
+use mathlib.Core.List.{List, _∷_, _++_}
+use lib.ListN.{length, take, drop}
+use Rattle.octets.specs.Octets.{blank}
+use Rattle.address.specs.Address.{joinOf}
+use Rattle.a6.specs.Data.{longest, suffixOctets}
+use Rattle.a6.specs.Ending.{nameFound, nameNumber, valueFrom}
 use Rattle.a6.specs.declared.Value.{Value}
+use Rattle.a6.specs.declared.inside.Found.{Found}
 
 -- a value by its parts: the prefix length, the address, the 255 octets that hold the name, and how many of them are the name
 abbrev pub byParts : ℕ → List ℕ → List ℕ → ℕ → Value
@@ -11,3 +18,28 @@ byParts prefix address octets count = record { prefix = prefix; address = addres
 -- octets written over the front of others
 abbrev pub over : List ℕ → List ℕ → List ℕ
 over out xs = xs ++ drop (length xs) out
+
+-- as many octets as are left of an address after a prefix of length L, from place `at` on, in the last of sixteen octets
+abbrev pub lastAt : List ℕ → ℕ → ℕ → List ℕ
+lastAt octets at l = blank (16 - suffixOctets l) ++ take (suffixOctets l) (drop at octets)
+
+-- what the tests say of data whose parts are there and that ends well
+abbrev pub foundAt : ℕ → ℕ → ℕ → Bool → Found
+foundAt prefix suffix rest standard = record { number = 0; prefix = prefix; suffix = suffix; rest = rest; standard = standard }
+
+-- the value that data stands for, by where its parts were found
+abbrev pub valueAt : List ℕ → Found → Value
+valueAt octets f = valueFrom (f .prefix) (lastAt octets (f .suffix) (f .prefix)) (drop (f .rest) octets)
+
+-- the parts are there, and the data ends well
+pub record Sound (octets : List ℕ) (f : Found) : Type 0 where
+  pub low : f .prefix ≤ longest
+  pub suffix-inside : f .suffix + suffixOctets (f .prefix) ≤ length octets
+  pub rest-inside : f .rest ≤ length octets
+  pub named : nameNumber (f .prefix) (drop (f .rest) octets) ≡ 0
+  pub told : f .standard ≡ nameFound (f .prefix) (drop (f .rest) octets) .standard
+
+-- data in the order in which it is written: so many octets of the address before the prefix length, the prefix length, those from some place on
+-- after it, the name
+abbrev pub laid : ℕ → List ℕ → ℕ → ℕ → List ℕ → List ℕ
+laid prefix address before after name = take before address ++ (prefix ∷ (drop after address ++ name))

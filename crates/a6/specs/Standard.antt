@@ -4,8 +4,8 @@ use mathlib.Core.Bool.{true, false}
 use mathlib.Core.List.{List, [], _∷_, _++_}
 use lib.Dec.{eqb}
 use Rattle.names.specs.Standard.{standardOf}
-use Rattle.a6.specs.Data.{prefixOf, suffixOf}
-use Rattle.a6.specs.Read.{nameOctets}
+use Rattle.a6.specs.Data.{prefixOf, suffixOf, afterSuffix}
+use Rattle.a6.specs.Ending.{nameOctets}
 
 -- a suffix with its padding, the first bits of its first octet, made zero
 unfoldable pub withoutPadding : ℕ → List ℕ → List ℕ
@@ -13,9 +13,9 @@ withoutPadding padding [] = []
 withoutPadding padding (x ∷ xs) = x % 2 ^ (8 - padding) ∷ xs
 
 -- the prefix name in standard form; no octets at L = 0
-abbrev pub standardName : List ℕ → List ℕ
-standardName octets = elim (eqb (prefixOf octets) 0) [ true ↦ [] | false ↦ standardOf (nameOctets octets) ]
+abbrev pub standardName : ℕ → List ℕ → List ℕ
+standardName l rest = elim (eqb l 0) [ true ↦ [] | false ↦ standardOf (nameOctets l rest) ]
 
 -- the data with zeros for its padding and its name in standard form
 unfoldable pub standardData : List ℕ → List ℕ
-standardData octets = prefixOf octets ∷ (withoutPadding (prefixOf octets % 8) (suffixOf octets) ++ standardName octets)
+standardData octets = prefixOf octets ∷ (withoutPadding (prefixOf octets % 8) (suffixOf octets) ++ standardName (prefixOf octets) (afterSuffix octets))

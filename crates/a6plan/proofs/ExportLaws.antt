@@ -1,5 +1,5 @@
 -- Laws of what an answer becomes at the C interface.
-use Prim.Native.Nat.{ℕ, _-_, _≤_, _<_}
+use Prim.Native.Nat.{ℕ, zero, suc, _-_, _≤_, _<_}
 use mathlib.Core.Path.{_≡_, refl, ap, _∙_, sym}
 use mathlib.Core.Bool.{Bool, true, false}
 use mathlib.Core.List.{List, [], _∷_, _++_, append-nil, append-assoc}
@@ -12,11 +12,15 @@ use borrow.Author.Tests.{eq-eqb, ne-eqb, lt-ltb, le-ltb, eqb-true, eqb-false, lt
 use Rattle.octets.specs.Octets.{blank}
 use Rattle.octets.specs.declared.Answer.{Answer}
 use Rattle.octets.specs.Answers.{answerBy, outBy}
-use Rattle.octets.proofs.AnswerLaws.{refused-out, by-number}
+use Rattle.octets.proofs.AnswerLaws.{not-nought, refused-out, by-number}
 use Rattle.octets.proofs.OctetLaws.{length-blank}
+use Rattle.octets.proofs.BoolLaws.{clash}
 use Rattle.a6.specs.declared.Value.{Value}
-use Rattle.a6plan.specs.Exports.{valueSize, exportedReadNumber, exportedWriteNumber, valueIn, exportedNumber, exportedFigures}
-use Rattle.a6plan.specs.Keeping.{keptFor}
+use Rattle.a6.specs.Parts.{valueAt}
+use Rattle.a6.specs.declared.inside.Found.{Found}
+use Rattle.a6.proofs.EndingLaws.{Tells}
+use Rattle.a6plan.specs.Exports.{valueSize, valueOctets, misfit, exportedReadNumber, exportedWriteNumber, valueIn, exportedNumber, exportedFigures}
+use Rattle.a6plan.specs.Keeping.{clearedIf, keptFor}
 
 module _ (n k : ℕ) where
   pub exported-two : n ≡ 2 → exportedNumber n k ≡ k
@@ -131,7 +135,7 @@ module _ (v address : List ℕ) (h : v ≡ blank valueSize) (a : length address 
   unfolding blank
   with-address = rw h (ap (λ (ys : List ℕ). 0 ∷ ys) (sym (append-assoc address (0 ∷ []) (blank 255))))
 
-  address-long : length (addressed v address) ≡ valueSize
+  pub address-long : length (addressed v address) ≡ valueSize
   address-long = rw with-address (length-append ((0 ∷ address) ++ (0 ∷ [])) (blank 255) ∙ omega (arith, front-long, length-blank 255))
 
   rest-blank : drop 18 (addressed v address) ≡ blank 255
@@ -152,28 +156,67 @@ module _ (v address : List ℕ) (h : v ≡ blank valueSize) (a : length address 
   pub value-put : (octets : List ℕ) (p l : ℕ) → set (set (named (addressed v address) octets) 0 p) 17 l ≡ p ∷ (address ++ (l ∷ octets))
   value-put octets p l = rw (with-name octets) (set-at (p ∷ address) 0 octets l 17 (omega arith))
 
--- the numbers of reading and writing at this interface
-module _ (m k : ℕ) where
-  pub read-misfit : (m ≡ valueSize → ⊥) → exportedReadNumber m k ≡ 5
-  unfolding exportedReadNumber
-  read-misfit h = rw (ne-eqb m valueSize h)
+-- ---- reading, in each layout: 5 before everything else
+pub read-misfit : (m k : ℕ) (result : List ℕ) {end : List ℕ} → (m ≡ valueSize → ⊥) → end ≡ blank m → (5 ≡ exportedReadNumber m k) × (end ≡ outBy 5 result m)
+unfolding exportedReadNumber
+read-misfit m k result h e = (rw (ne-eqb m valueSize h), e ∙ refused-out 5 5 refl (not-nought 4) result m)
 
-  pub read-fit : m ≡ valueSize → exportedReadNumber m k ≡ k
-  unfolding exportedReadNumber
-  read-fit h = rw (eq-eqb m valueSize h)
+-- only a result that 0 gives counts
+out-alike : (r : ℕ) (a b : List ℕ) (room : ℕ) → (r ≡ 0 → a ≡ b) → outBy r a room ≡ outBy r b room
+unfolding outBy
+out-alike zero a b room g = ap (λ (x : List ℕ). x ++ blank (room - length x)) (g refl)
+out-alike (suc j) a b room g = refl
 
-  module _ (n : ℕ) where
-    pub write-misfit : (m ≡ valueSize → ⊥) → exportedWriteNumber m n k ≡ 5
+-- what the tests of a layout say of data, and the value put into the slice by it
+pub read-told : (m : ℕ) (octets : List ℕ) (f : Found) (number : ℕ) (v : Value) {r : ℕ} {end : List ℕ} → m ≡ valueSize → Tells octets f number v
+    → (r ≡ f .number) × (end ≡ outBy r (valueOctets (valueAt octets f)) valueSize) → (r ≡ exportedReadNumber m number) × (end ≡ outBy r (valueOctets v) m)
+unfolding exportedReadNumber
+read-told m octets f number v {r} {end} h t p = (
+  p .0 ∙ t .0 ∙ rw (eq-eqb m valueSize h),
+  rw (← h) at (p .1) ∙ out-alike r _ _ m (λ z. ap valueOctets (t .1 (sym (p .0 ∙ t .0) ∙ z) .1)),
+)
+
+-- ---- writing, in each layout: 5 before everything else
+module _ (m n : ℕ) where
+  pub misfit-value : (m ≡ valueSize → ⊥) → misfit m n ≡ true
+  misfit-value h = rw (ne-eqb m valueSize h)
+
+  pub misfit-figures : m ≡ valueSize → (n ≡ 2 → ⊥) → misfit m n ≡ true
+  misfit-figures h l = rw (eq-eqb m valueSize h, ne-eqb n 2 l)
+
+  pub fitting : m ≡ valueSize → n ≡ 2 → misfit m n ≡ false
+  fitting h l = rw (eq-eqb m valueSize h, eq-eqb n 2 l)
+
+  pub fits : misfit m n ≡ false → (m ≡ valueSize) × (n ≡ 2)
+  fits h = go (eqb m valueSize) refl (eqb n 2) refl
+    where
+      go : (a : Bool) → eqb m valueSize ≡ a → (b : Bool) → eqb n 2 ≡ b → (m ≡ valueSize) × (n ≡ 2)
+      go true e true f = (eqb-true m valueSize e, eqb-true n 2 f)
+      go true e false f = absurd (clash (misfit-figures (eqb-true m valueSize e) (eqb-false n 2 f)) h)
+      go false e b f = absurd (clash (misfit-value (eqb-false m valueSize e)) h)
+
+  -- what a writing with result `xs`, and an output of `size` octets, comes to by its number k
+  module _ (k : ℕ) (xs : List ℕ) (size : ℕ) {out figures : List ℕ} where
+    pub unwritten : misfit m n ≡ true → out ≡ blank size → figures ≡ blank n
+        → (5 ≡ exportedWriteNumber m n k) × ((out ≡ outBy 5 xs size) × (figures ≡ exportedFigures 5 (answerBy k (length xs) 0) n))
     unfolding exportedWriteNumber
-    write-misfit h = rw (ne-eqb m valueSize h)
+    unwritten h o f = (rw h, (o ∙ refused-out 5 5 refl (not-nought 4) _ size, f ∙ refused-out 5 5 refl (not-nought 4) _ n))
 
-    pub write-figures : m ≡ valueSize → (n ≡ 2 → ⊥) → exportedWriteNumber m n k ≡ 5
+    pub written : misfit m n ≡ false → {answer : Answer} {r : ℕ} → (answer ≡ answerBy k (length xs) 0) × (out ≡ outBy k xs size)
+        → (r ≡ exportedNumber n (answer .number)) × (figures ≡ exportedFigures r answer n)
+        → (r ≡ exportedWriteNumber m n k) × ((out ≡ outBy r xs size) × (figures ≡ exportedFigures r (answerBy k (length xs) 0) n))
     unfolding exportedWriteNumber
-    write-figures h l = rw (eq-eqb m valueSize h, ne-eqb n 2 l)
+    written h {answer} {r} o f =
+        let e : r ≡ k = exported-number n k (length xs) 0 answer r (o .0) (f .0) ∙ exported-two n k (fits h .1) in
+        (e ∙ rw h, (o .1 ∙ ap (λ (j : ℕ). outBy j xs size) (sym e), exported-figures n k (length xs) 0 answer r (o .0) (f .0) figures (f .1)))
 
-    pub write-fit : m ≡ valueSize → n ≡ 2 → exportedWriteNumber m n k ≡ k
-    unfolding exportedWriteNumber
-    write-fit h l = rw (eq-eqb m valueSize h, eq-eqb n 2 l)
+pub cleared-if : (b : Bool) (out : List ℕ) → b ≡ true → clearedIf b out ≡ blank (length out)
+unfolding clearedIf
+cleared-if b out e = rw e
+
+pub kept-if : (b : Bool) (out : List ℕ) → b ≡ false → clearedIf b out ≡ out
+unfolding clearedIf
+kept-if b out e = rw e
 
 -- the value of octets, from its copied parts
 pub value-taken : (xs a b : List ℕ) → a ≡ take 16 (drop 1 xs) → b ≡ take 255 (drop 18 xs)

@@ -1,6 +1,6 @@
 -- What an operation's answer becomes at the C interface: a number, two figures and its outputs, by the number.
 use Prim.Native.Nat.{ℕ}
-use mathlib.Core.Bool.{not, _&&_, _||_}
+use mathlib.Core.Bool.{Bool, not, _&&_, _||_}
 use mathlib.Core.List.{List, [], _∷_, _++_}
 use lib.Dec.{eqb, ltb}
 use lib.ListN.{getD, take, drop}
@@ -33,10 +33,13 @@ valueOctets v = v .prefix ∷ (v .address ++ (v .name .length ∷ v .name .octet
 unfoldable pub valueIn : List ℕ → Value
 valueIn xs = record { prefix = getD xs 0 0; address = take 16 (drop 1 xs); name = record { octets = take 255 (drop 18 xs); length = getD xs 17 0 } }
 
--- the number k of reading and of writing A6 data, which have no 5 of their own: 5 before everything else for a value slice of m places that is not
--- of that size, and, where there are figures, for n of them that are not two
+-- the number k of reading and of writing data, in each layout, which have no 5 of their own: 5 before everything else for a value slice of m places
+-- that is not of that size, and, where there are figures, for n of them that are not two
 unfoldable pub exportedReadNumber : ℕ → ℕ → ℕ
 exportedReadNumber m k = earns (not (eqb m valueSize)) 5 k
 
+abbrev pub misfit : ℕ → ℕ → Bool
+misfit m n = not (eqb m valueSize) || not (eqb n 2)
+
 unfoldable pub exportedWriteNumber : ℕ → ℕ → ℕ → ℕ
-exportedWriteNumber m n k = earns (not (eqb m valueSize) || not (eqb n 2)) 5 k
+exportedWriteNumber m n k = earns (misfit m n) 5 k

@@ -1,11 +1,16 @@
 -- What the C interface does with an operation's output: the code's own, nothing that a reader must believe.
 use Prim.Native.Nat.{ℕ}
-use mathlib.Core.Bool.{true, false}
+use mathlib.Core.Bool.{Bool, true, false, not}
 use mathlib.Core.List.{List}
 use lib.Dec.{eqb}
 use lib.ListN.{length}
 use Rattle.octets.specs.Octets.{blank}
 
+-- zeros in place of an output, where a test holds
+unfoldable pub clearedIf : Bool → List ℕ → List ℕ
+clearedIf b out = elim b [ true ↦ blank (length out) | false ↦ out ]
+
 -- an output as the operation left it where the figures, n of them, are two; else zeros
 unfoldable pub keptFor : ℕ → List ℕ → List ℕ
-keptFor n out = elim (eqb n 2) [ true ↦ out | false ↦ blank (length out) ]
+unfolding clearedIf
+keptFor n out = clearedIf (not (eqb n 2)) out

@@ -1,12 +1,14 @@
 // The C interface: each function takes slices and numbers, asks nothing of its caller, and returns the number of 01 (What comes back).
 ghost use mathlib.Core.Path.{_≡_};
+ghost use mathlib.Core.Bool.{true};
 ghost use lib.ListN.{length};
-ghost use Rattle.octets.specs.Octets.{flat};
+ghost use Rattle.octets.specs.Octets.{blank, flat};
 ghost use Rattle.octets.specs.Answers.{outBy};
 ghost use Rattle.names.specs.Standard.{standardOf};
 ghost use Rattle.names.specs.Answers.{standardNumber, standardAnswer};
 ghost use Rattle.a6.specs.Read.{readNumber, valueOf};
 ghost use Rattle.a6.specs.Write.{dataOf, writeNumber, writeAnswer};
+ghost use Rattle.a6.specs.Parts.{valueAt, Sound};
 ghost use Rattle.plan.specs.Check.{checkOf};
 ghost use Rattle.plan.specs.Part.{ownerPart};
 ghost use Rattle.plan.specs.Graph.{graphOf};
@@ -15,8 +17,8 @@ ghost use Rattle.forward.specs.Lookup.{lookupNumber, lookupAnswer};
 ghost use Rattle.reverse.specs.Answers.{endOf, endNumber, endName, reverseAnswer};
 ghost use Rattle.collapse.specs.Fold.{foldOf};
 ghost use Rattle.collapse.specs.Collapse.{numberOf, collapseAnswer};
-ghost use Rattle.a6plan.specs.Exports.{partAnswer, valueSize, valueOctets, valueIn, exportedReadNumber, exportedWriteNumber, exportedNumber, exportedFigures};
-ghost use Rattle.a6plan.specs.Keeping.{keptFor};
+ghost use Rattle.a6plan.specs.Exports.{partAnswer, valueSize, valueOctets, valueIn, misfit, exportedReadNumber, exportedWriteNumber, exportedNumber, exportedFigures};
+ghost use Rattle.a6plan.specs.Keeping.{clearedIf, keptFor};
 
 // The octets of an A6 value at this interface.
 const VALUE: usize = 273;
@@ -42,17 +44,7 @@ pub extern "C" fn a6plan_read(rdata: &[u8], value: &mut [u8]) -> u32
     if value.len() != VALUE {
         return 5;
     }
-    let checked = a6::inside::check(rdata);
-    let number = checked.number;
-    let standard = checked.standard;
-    if number != 0 {
-        return number as u32;
-    }
-    a6::inside::put_address(rdata, &mut value[1..17]);
-    let length = a6::inside::put_name(rdata, standard, &mut value[18..]);
-    value[0] = rdata[0];
-    value[17] = length;
-    0
+    put_value(rdata, a6::inside::check(rdata), value)
 }
 
 // The A6 data of a value of 273 octets, with zeros after it; figures: the octets written and 0.
@@ -62,14 +54,7 @@ pub extern "C" fn a6plan_write(value: &[u8], out: &mut [u8], figures: &mut [u32]
     ensures output { λ r. ⌜ now (out .exit) ≡ outBy r (dataOf (valueIn (now (value .entry)))) (length (now (out .entry))) ⌝ }
     ensures figured { λ r. ⌜ now (figures .exit) ≡ exportedFigures r (writeAnswer (valueIn (now (value .entry))) (length (now (out .entry)))) (length (now (figures .entry))) ⌝ }
 {
-    if value.len() != VALUE {
-        octets::clear(out);
-        octets::numbers::clear(figures);
-        return 5;
-    }
-    if figures.len() != 2 {
-        octets::clear(out);
-        octets::numbers::clear(figures);
+    if misfits(value.len(), out, figures) {
         return 5;
     }
     let answer = a6::write(take_value(value), out);
@@ -155,6 +140,52 @@ pub extern "C" fn a6plan_collapse(
 {
     let answer = collapse::collapse(table, name, out);
     report(answer, out, figures)
+}
+
+// The number of what a reader's tests say, and over zeros the value of 273 octets where it is 0.
+fn put_value(rdata: &[u8], found: a6::inside::Found, value: &mut [u8]) -> u32
+    requires { ⌜ (found .number ≡ 0 → Sound (now rdata) found) × (now value ≡ blank valueSize) ⌝ }
+    ensures { λ r. ⌜ (r ≡ found .number) × (now (value .exit) ≡ outBy r (valueOctets (valueAt (now (rdata .entry)) found)) valueSize) ⌝ }
+{
+    let told = found.number;
+    if told != 0 {
+        return told as u32;
+    }
+    let prefix = found.prefix;
+    let suffix = found.suffix;
+    let rest = found.rest;
+    let standard = found.standard;
+    a6::inside::put_address(rdata, suffix, prefix, &mut value[1..17]);
+    let length = a6::inside::put_name(&rdata[rest..], prefix, standard, &mut value[18..]);
+    value[0] = prefix;
+    value[17] = length;
+    0
+}
+
+// Whether a value slice of m places is not of that size, or the figures are not two; if so, what is lent is zeros.
+fn misfits(m: usize, out: &mut [u8], figures: &mut [u32]) -> bool
+    ensures { λ r. ⌜ r ≡ misfit m (length (now (figures .entry))) ⌝ }
+    ensures { λ r. ⌜ now (out .exit) ≡ clearedIf r (now (out .entry)) ⌝ }
+    ensures { λ r. ⌜ now (figures .exit) ≡ clearedIf r (now (figures .entry)) ⌝ }
+{
+    if m != VALUE {
+        return wiped(out, figures);
+    }
+    if figures.len() != 2 {
+        return wiped(out, figures);
+    }
+    false
+}
+
+// Zeros in all that is lent, and true.
+fn wiped(out: &mut [u8], figures: &mut [u32]) -> bool
+    ensures { λ r. ⌜ r ≡ true ⌝ }
+    ensures { λ _. ⌜ now (out .exit) ≡ blank (length (now (out .entry))) ⌝ }
+    ensures { λ _. ⌜ now (figures .exit) ≡ blank (length (now (figures .entry))) ⌝ }
+{
+    octets::clear(out);
+    octets::numbers::clear(figures);
+    true
 }
 
 // The value of 273 octets.

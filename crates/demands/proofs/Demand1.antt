@@ -45,7 +45,8 @@ use Rattle.labels.proofs.scan.Reads as scan
 use Rattle.names.proofs.is_standard.Reads as is-standard
 use Rattle.names.proofs.hold.Reads as hold
 use Rattle.a6.specs.Data.{blankValue}
-use Rattle.a6.specs.Read.{readNumber, valueOf, readOf, readingFor}
+use Rattle.a6.specs.Ending.{readingFor}
+use Rattle.a6.specs.Read.{readNumber, valueOf, readOf}
 use Rattle.a6.specs.Write.{dataOf, writeNumber, writeAnswer, writeOut}
 use Rattle.a6.specs.declared.Value.{Value}
 use Rattle.a6.specs.declared.Reading.{Reading}
@@ -245,14 +246,15 @@ scan-clears xs = go (scanOf xs)
     go (scans.done ls used) h = absurd (h refl)
 
 -- a refused reading shows L = 0, zero octets and name length 0
+reading-clears : (k : ℕ) (v : Value) → (readingFor k v .number ≡ 0 → ⊥) → readingFor k v .value ≡ blankValue
+unfolding readingFor
+reading-clears zero v h = absurd (h refl)
+reading-clears (suc k) v h = refl
+
 pub read-clears : (octets : List ℕ) → (readOf octets .number ≡ 0 → ⊥)
     → readOf octets .value ≡ record { prefix = 0; address = blank 16; name = record { octets = blank 255; length = 0 } }
 unfolding readingFor nameOf
-read-clears octets = go (readNumber octets)
-  where
-    go : (k : ℕ) → (readingFor k octets .number ≡ 0 → ⊥) → readingFor k octets .value ≡ blankValue
-    go zero h = absurd (h refl)
-    go (suc k) h = refl
+read-clears octets = reading-clears (readNumber octets) (valueOf octets)
 
 -- a refused writing has both figures 0 and its output zero
 pub write-clears : (v : Value) (room : ℕ) → Cleared (writeAnswer v room) (writeOut v room) room

@@ -34,11 +34,11 @@ use Rattle.reverse.specs.Demand.{ReverseIs}
 use Rattle.reverse.proofs.Demand.{reverse-is}
 use Rattle.reverse.proofs.lookup.Reads as reversed
 use Rattle.a6.specs.Data.{Shaped}
-use Rattle.a6.specs.Read.{readOf}
+use Rattle.a6.specs.Read.{readNumber, valueOf, readOf}
 use Rattle.a6.specs.Write.{writeNumber, writeAnswer, writeOut}
 use Rattle.a6.specs.Standard.{standardData}
 use Rattle.a6.specs.declared.Value.{Value}
-use Rattle.a6.proofs.ReadLaws.{reading-number}
+use Rattle.a6.proofs.EndingLaws.{reading-number}
 use Rattle.a6.proofs.RoundTrip.{write-read, read-write}
 use Rattle.demands.specs.Demand2.{Ownable}
 use Rattle.demands.proofs.Owned.{later, slices-octets}
@@ -190,7 +190,7 @@ reverse-running κs table address out end limit r learnt o l e =
 pub write-back : (octets : List ℕ) (room : ℕ) → Small octets → readOf octets .number ≡ 0 → length (standardData octets) ≤ room
     → (writeAnswer (readOf octets .value) room ≡ answering (length (standardData octets)) 0)
     × (writeOut (readOf octets .value) room ≡ standardData octets ++ blank (room - length (standardData octets)))
-write-back octets room s e l = write-read octets room s (sym (reading-number octets) ∙ e) l
+write-back octets room s e l = write-read octets room s (sym (reading-number (readNumber octets) (valueOf octets)) ∙ e) l
 
 -- what was written and is read back is the value; `Shaped` is what the type of a value gives
 pub read-back : (v : Value) (room : ℕ) → Shaped v → writeAnswer v room .number ≡ 0

@@ -1,6 +1,6 @@
 -- `a6::inside::unpadded` meets its contract.
 use borrow.Author.Needs.{needs}
-use Rattle.a6.proofs.ReadLaws.{mask-octet}
+use Rattle.a6.proofs.SuffixLaws.{mask-octet}
 use Rattle.a6.proofs.inside.unpadded.Statement.{statement}
 use Rattle.a6.proofs.inside.unpadded.Tie as tie
 

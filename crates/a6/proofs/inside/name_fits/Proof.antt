@@ -1,9 +1,9 @@
--- `a6::name_fits` meets its contract.
+-- `a6::inside::name_fits` meets its contract.
 use mathlib.Core.Path.{sym, _∙_}
 use borrow.Author.Needs.{needs}
-use Rattle.a6.proofs.WriteLaws.{fits-none, fits-some}
-use Rattle.a6.proofs.name_fits.Statement.{statement}
-use Rattle.a6.proofs.name_fits.Tie as tie
+use Rattle.a6.proofs.AcceptedLaws.{fits-none, fits-some}
+use Rattle.a6.proofs.inside.name_fits.Statement.{statement}
+use Rattle.a6.proofs.inside.name_fits.Tie as tie
 
 returns : tie.Need-returns
 returns c = let a = c .before .before .args in sym (fits-none (a .prefix) (a .name .now) (c .if1 .taken))

@@ -1,8 +1,8 @@
--- `a6::suffix_octets` meets its contract.
+-- `a6::inside::suffix_octets` meets its contract.
 use native.Mathlib.Omega.{arith}
 use borrow.Author.Needs.{needs}
-use Rattle.a6.proofs.suffix_octets.Statement.{statement}
-use Rattle.a6.proofs.suffix_octets.Tie as tie
+use Rattle.a6.proofs.inside.suffix_octets.Statement.{statement}
+use Rattle.a6.proofs.inside.suffix_octets.Tie as tie
 
 wide-requires : tie.Need-wide-requires
 wide-requires c κs = search needs

@@ -1,10 +1,10 @@
--- `a6::refused` meets its contract.
+-- `a6::inside::refused` meets its contract.
 use mathlib.Core.Path.{ap}
 use borrow.Author.Needs.{needs}
 use Rattle.octets.specs.Octets.{blank}
 use Rattle.names.specs.declared.Name.{Name}
-use Rattle.a6.proofs.refused.Statement.{statement}
-use Rattle.a6.proofs.refused.Tie as tie
+use Rattle.a6.proofs.inside.refused.Statement.{statement}
+use Rattle.a6.proofs.inside.refused.Tie as tie
 
 no-name-requires : tie.Need-no-name-requires
 no-name-requires c κs = search needs

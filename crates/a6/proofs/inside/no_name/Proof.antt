@@ -1,8 +1,8 @@
--- `a6::no_name` meets its contract.
+-- `a6::inside::no_name` meets its contract.
 use mathlib.Core.Path.{refl}
 use Rattle.names.specs.Name.{nameOf}
-use Rattle.a6.proofs.no_name.Statement.{statement}
-use Rattle.a6.proofs.no_name.Tie as tie
+use Rattle.a6.proofs.inside.no_name.Statement.{statement}
+use Rattle.a6.proofs.inside.no_name.Tie as tie
 use Rattle.octets.specs.Octets.{blank}
 
 returns : tie.Need-returns

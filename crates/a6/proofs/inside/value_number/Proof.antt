@@ -1,20 +1,20 @@
--- `a6::number_of` meets its contract: each test is one law of the writer.
-use Prim.Native.Nat.{_+_, _≤_}
+-- `a6::inside::value_number` meets its contract: each test is one law of the values that a writer takes.
+use Prim.Native.Nat.{_≤_}
 use mathlib.Core.Path.{_≡_, sym, _∙_}
 use mathlib.Core.Bool.{true}
-use lib.ListN.{length, drop}
+use lib.ListN.{drop}
 use lib.Seq.{length-take-le}
 use native.Mathlib.Omega.{arith}
 use borrow.Author.Needs.{needs}
 use borrow.Author.Tests.{not-true, not-false}
 use Rattle.octets.specs.Zeros.{isBlank}
 use Rattle.a6.specs.Data.{octetsOf}
-use Rattle.a6.specs.Write.{dataOf, nameFits}
+use Rattle.a6.specs.Accepted.{nameFits}
 use Rattle.a6.specs.Parts.{byParts}
 use Rattle.a6.specs.declared.Value.{Value}
-use Rattle.a6.proofs.WriteLaws.{Writable, write-prefix, write-name, write-filled, write-clear, write-room, write-done, data-size}
-use Rattle.a6.proofs.number_of.Statement.{statement}
-use Rattle.a6.proofs.number_of.Tie as tie
+use Rattle.a6.proofs.AcceptedLaws.{value-prefix, value-name, value-filled, value-clear, value-done}
+use Rattle.a6.proofs.inside.value_number.Statement.{statement}
+use Rattle.a6.proofs.inside.value_number.Tie as tie
 
 -- the value whose parts are passed
 abbrev value : tie.Start → Value
@@ -44,20 +44,8 @@ fitting c = fits (c .before) ∙ not-false (c .before .name-fits .result) (c .if
 fills : (c : tie.Else3) → isBlank (drop (start (named (c .before)) .args .count) (start (named (c .before)) .args .octets .now)) ≡ true
 fills c = sym (c .before .is-blank .ensures) ∙ not-false (c .before .is-blank .result) (c .if3 .left)
 
-writable : (c : tie.Else4) → Writable (value (start (named (filled (c .before)))))
-writable c =
-    let k = c .before in
-    let b = filled k in
-    record { low = low (named b); fits = fitting (b .before); filled = fills (k .before); clear = sym (k .is-clear .ensures) ∙ not-false (k .is-clear .result) (c .if4 .left) }
-
--- how long its data is
-size : (c : tie.After-suffix-octets) → length (dataOf (value (start (named (filled (c .before .before)))))) ≡ 1 + c .suffix-octets .result + start (named (filled (c .before .before))) .args .count
-size c =
-    let s = start (named (filled (c .before .before))) in
-    omega (arith, data-size (value s) (writable (c .before) .low) (s .pre .0) (omega (arith, s .pre)), c .suffix-octets .ensures)
-
 returns : tie.Need-returns
-returns c = let s = c .before .before .before in sym (write-prefix (value s) (s .args .room) (c .if1 .taken))
+returns c = sym (value-prefix (value (c .before .before .before)) (c .if1 .taken))
 
 slice-aggregate-name-fits : tie.Need-slice-aggregate-name-fits
 slice-aggregate-name-fits c =
@@ -70,7 +58,7 @@ name-fits-requires c κs = search needs
 returns-2 : tie.Need-returns-2
 returns-2 c =
     let f = c .before in
-    sym (write-name (value (start f)) (start f .args .room) (low f) (fits f ∙ not-true (f .name-fits .result) (c .if2 .taken)))
+    sym (value-name (value (start f)) (low f) (fits f ∙ not-true (f .name-fits .result) (c .if2 .taken)))
 
 is-blank-requires : tie.Need-is-blank-requires
 is-blank-requires c κs = search needs
@@ -79,7 +67,7 @@ returns-3 : tie.Need-returns-3
 returns-3 c =
     let b = c .before in
     let f = named b in
-    sym (write-filled (value (start f)) (start f .args .room) (low f) (fitting (b .before)) (sym (b .is-blank .ensures) ∙ not-true (b .is-blank .result) (c .if3 .taken)))
+    sym (value-filled (value (start f)) (low f) (fitting (b .before)) (sym (b .is-blank .ensures) ∙ not-true (b .is-blank .result) (c .if3 .taken)))
 
 is-clear-requires : tie.Need-is-clear-requires
 is-clear-requires c κs = search needs
@@ -89,31 +77,17 @@ returns-4 c =
     let k = c .before in
     let b = filled k in
     let f = named b in
-    sym (write-clear (value (start f)) (start f .args .room) (low f) (fitting (b .before)) (fills (k .before)) (sym (k .is-clear .ensures) ∙ not-true (k .is-clear .result) (c .if4 .taken)))
-
-suffix-octets-requires : tie.Need-suffix-octets-requires
-suffix-octets-requires c κs = writable c .low
-
-add-if5 : tie.Need-add-if5
-add-if5 c = search needs
-
-add-if5-2 : tie.Need-add-if5-2
-add-if5-2 c = search needs
+    sym (value-clear (value (start f)) (low f) (fitting (b .before)) (fills (k .before)) (sym (k .is-clear .ensures) ∙ not-true (k .is-clear .result) (c .if4 .taken)))
 
 returns-5 : tie.Need-returns-5
 returns-5 c =
-    let w = c .before .before in
-    let s = start (named (filled (w .before))) in
-    sym (write-room (value s) (s .args .room) (writable w) (omega (arith, size (c .before), c .if5 .taken)))
+    let k = c .before in
+    let b = filled k in
+    let f = named b in
+    sym (value-done (value (start f)) (record { low = low f; fits = fitting (b .before); filled = fills (k .before); clear = sym (k .is-clear .ensures) ∙ not-false (k .is-clear .result) (c .if4 .left) }))
 
-returns-6 : tie.Need-returns-6
-returns-6 c =
-    let w = c .before .before in
-    let s = start (named (filled (w .before))) in
-    sym (write-done (value s) (s .args .room) (writable w) (omega (arith, size (c .before), c .if5 .left)))
-
-pub number-of-spec : {M : Type 1} → statement M
-number-of-spec =
+pub value-number-spec : {M : Type 1} → statement M
+value-number-spec =
     tie.close
     (tie.spec
     returns
@@ -124,8 +98,4 @@ number-of-spec =
     returns-3
     is-clear-requires
     returns-4
-    suffix-octets-requires
-    add-if5
-    add-if5-2
-    returns-5
-    returns-6)
+    returns-5)
