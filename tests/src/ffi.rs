@@ -18,6 +18,15 @@ extern "C" {
         figures: *mut u32,
         figures_length: usize,
     ) -> u32;
+    fn a6plan_read_1998(data: *const u8, data_length: usize, value: *mut u8, value_length: usize) -> u32;
+    fn a6plan_write_1998(
+        value: *const u8,
+        value_length: usize,
+        out: *mut u8,
+        out_length: usize,
+        figures: *mut u32,
+        figures_length: usize,
+    ) -> u32;
     fn a6plan_check(table: *const u8, table_length: usize) -> u32;
     fn a6plan_owner(
         table: *const u8,
@@ -81,6 +90,20 @@ pub fn write(value: &[u8], out: &mut [u8], figures: &mut [u32]) -> u32 {
     // SAFETY: each pointer and length come from one live slice, and the written ones are lent mutably.
     unsafe {
         a6plan_write(value.as_ptr(), value.len(), out.as_mut_ptr(), out.len(), figures.as_mut_ptr(), figures.len())
+    }
+}
+
+/// The value that data in the layout of the 1998 draft hold.
+pub fn read_1998(data: &[u8], value: &mut [u8]) -> u32 {
+    // SAFETY: each pointer and length come from one live slice, and the written one is lent mutably.
+    unsafe { a6plan_read_1998(data.as_ptr(), data.len(), value.as_mut_ptr(), value.len()) }
+}
+
+/// The data of a value in `out`, in the layout of the 1998 draft; figures: octets written and 0.
+pub fn write_1998(value: &[u8], out: &mut [u8], figures: &mut [u32]) -> u32 {
+    // SAFETY: each pointer and length come from one live slice, and the written ones are lent mutably.
+    unsafe {
+        a6plan_write_1998(value.as_ptr(), value.len(), out.as_mut_ptr(), out.len(), figures.as_mut_ptr(), figures.len())
     }
 }
 

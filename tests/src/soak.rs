@@ -7,12 +7,14 @@ use crate::generate::forward::{self, Tangle};
 use crate::generate::names::{self, Name};
 use crate::generate::reverse::{self, Walk};
 use crate::generate::{a6, plan, Random};
+use crate::layout::Layout;
 use crate::lent::Sides;
 use crate::met::Met;
 use crate::{ffi, reference};
 
 /// The exported functions, in the order of their numbers here.
-pub const FUNCTIONS: [&str; 8] = ["standard", "read", "write", "check", "owner", "lookup", "reverse", "collapse"];
+pub const FUNCTIONS: [&str; 10] =
+    ["standard", "read", "write", "read_1998", "write_1998", "check", "owner", "lookup", "reverse", "collapse"];
 
 /// Makes `calls` calls and compares each with the reference: the number, every octet of the outputs and the figures;
 /// guards and inputs are as they were. Gives how often each function gave each number.
@@ -113,15 +115,17 @@ impl Soak {
         let function = self.random.below(FUNCTIONS.len());
         self.function = function;
         // The table that suits the function, mostly.
-        let usual = [0, 0, 0, 0, 0, 0, 1, 0][function];
+        let usual = (FUNCTIONS[function] == "reverse") as usize;
         let table = if self.random.once_in(4) { self.random.below(self.tables.len()) } else { usual };
         let table = self.tables[table].clone();
         let name = self.names[self.random.below(self.names.len())].clone();
         let figures = if self.random.once_in(16) { self.random.below(5) } else { 2 };
         let number = match FUNCTIONS[function] {
             "standard" => self.standard(&name, figures),
-            "read" => self.read(),
-            "write" => self.write(figures),
+            "read" => self.read(Layout::A6),
+            "write" => self.write(Layout::A6, figures),
+            "read_1998" => self.read(Layout::Draft),
+            "write_1998" => self.write(Layout::Draft, figures),
             "check" => self.both([0, 0], |_, _| ffi::check(&table), |_, _| reference::plan::check(&table)),
             "owner" => self.owner(&table, figures),
             "lookup" => self.lookup(&table, &name, figures),
@@ -149,22 +153,25 @@ impl Soak {
         self.both([out, figures], library, |out, figures| reference::names::standard(name, out, figures))
     }
 
-    fn read(&mut self) -> u32 {
+    fn read(&mut self, layout: Layout) -> u32 {
         let mut data = Vec::new();
-        a6::any_data(&mut self.random, &mut self.made, &mut data);
+        a6::any_data(&mut self.random, layout, &mut self.made, &mut data);
         let data = alone(&data);
         let value = self.length(&[reference::a6::VALUE]);
-        self.both([value, 0], |value, _| ffi::read(&data, value), |value, _| reference::a6::read(&data, value))
+        let [library, reference] = layout.readers();
+        self.both([value, 0], |value, _| library(&data, value), |value, _| reference(&data, value))
     }
 
-    fn write(&mut self, figures: usize) -> u32 {
+    fn write(&mut self, layout: Layout, figures: usize) -> u32 {
         let mut value = [0; reference::a6::VALUE];
-        let size = a6::any_value(&mut self.random, &mut self.made, &mut value);
+        a6::any_value(&mut self.random, &mut self.made, &mut value);
+        let size = layout.size(&value);
         let out = self.length(&[size, size, size - 1, 272, 300]);
         let length = if self.random.once_in(16) { self.random.below(value.len()) } else { value.len() };
         let value = alone(&value[..length]);
-        let library = |out: &mut [u8], figures: &mut [u32]| ffi::write(&value, out, figures);
-        self.both([out, figures], library, |out, figures| reference::a6::write(&value, out, figures))
+        let [library, reference] = layout.writers();
+        let library = |out: &mut [u8], figures: &mut [u32]| library(&value, out, figures);
+        self.both([out, figures], library, |out, figures| reference(&value, out, figures))
     }
 
     fn owner(&mut self, table: &[u8], figures: usize) -> u32 {

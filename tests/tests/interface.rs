@@ -42,5 +42,5 @@ fn exported(parameter: &str) -> Vec<String> {
 fn the_header_declares_what_is_exported() {
     let exported = functions("crates/a6plan/src/lib.rt", "\npub extern \"C\" fn ", exported);
     assert_eq!(functions("include/a6plan.h", "\nuint32_t ", declared), exported);
-    assert!(exported.len() >= 8 && exported.keys().all(|name| name.starts_with("a6plan_")), "{exported:?}");
+    assert!(exported.len() >= 10 && exported.keys().all(|name| name.starts_with("a6plan_")), "{exported:?}");
 }

@@ -1,11 +1,10 @@
 -- What is read of A6 data can be written, and data that was written is read again.
-use Prim.Native.Nat.{ℕ, suc, _+_, _-_, _%_, _^_}
-use mathlib.Core.Path.{_≡_, refl, ap, _∙_, sym}
-use mathlib.Core.List.{List, [], _∷_, _++_}
+use Prim.Native.Nat.{ℕ, suc, _+_, _-_, _%_}
+use mathlib.Core.Path.{_≡_, refl, ap, _∙_}
+use mathlib.Core.List.{List, _∷_, _++_}
 use lib.ListN.{length, drop, length-append}
 use lib.Seq.{take-at, drop-at}
 use native.Mathlib.Omega.{arith}
-use native.Mathlib.Nat.{mod-mod}
 use Rattle.octets.specs.Octets.{blank, Small}
 use Rattle.octets.proofs.OctetLaws.{length-blank, small-drop, small-take}
 use Rattle.octets.proofs.SmallLaws.{small-cons, small-append}
@@ -14,13 +13,13 @@ use Rattle.a6.specs.Data.{suffixOctets, prefixOf, suffixOf, afterSuffix,
 use Rattle.a6.specs.Ending.{nameNumber, valueFrom}
 use Rattle.a6.specs.Read.{readNumber, aligned, valueOf}
 use Rattle.a6.specs.Write.{dataOf}
-use Rattle.a6.specs.Standard.{withoutPadding, standardName, standardData}
+use Rattle.a6.specs.Standard.{withoutPadding, standardData}
 use Rattle.a6.specs.declared.Value.{Value}
-use Rattle.a6.proofs.SuffixLaws.{join-suffix, join-back}
+use Rattle.a6.proofs.SuffixLaws.{join-suffix, join-own, join-clear}
 use Rattle.a6.proofs.ReadLaws.{Fronted, suffix-long, read-ending}
 use Rattle.a6.proofs.AcceptedLaws.{Writable}
 use Rattle.a6.proofs.WriteLaws.{suffix-length, data-length}
-use Rattle.a6.proofs.RoundLaws.{read-name, read-long, read-writable, again, own-value}
+use Rattle.a6.proofs.RoundLaws.{read-name, read-shaped, read-writable, again, own-value}
 
 -- ---- what is read
 module _ (octets : List ℕ) (small : Small octets) (f : Fronted octets) (e : nameNumber (prefixOf octets) (afterSuffix octets) ≡ 0) where
@@ -38,6 +37,10 @@ module _ (octets : List ℕ) (small : Small octets) (f : Fronted octets) (e : na
       let k = 16 - suffixOctets (prefixOf octets) in
       let s = small-take (suffixOctets (prefixOf octets)) (drop 1 octets) (small-drop 1 octets small) in
       ap (drop k) (join-suffix (prefixOf octets) (suffixOf octets) (f .low) (suffix-long octets f) s) ∙ drop-at (blank k) (withoutPadding (prefixOf octets % 8) (suffixOf octets)) k (length-blank k)
+
+  pub value-shaped : Shaped (valueOf octets)
+  unfolding valueOf
+  value-shaped = read-shaped (prefixOf octets) (afterSuffix octets) rest-small e (aligned octets) aligned-long (f .low)
 
   pub value-writable : Writable (valueOf octets)
   unfolding valueOf
@@ -73,18 +76,12 @@ module _ (v : Value) (long : length (v .address) ≡ 16) (w : Writable v) where
       read-ending (dataOf v) (record { some = omega arith; low = omega (arith, w .low); long = omega arith })
       ∙ (λ i. nameNumber (data-prefix i) (data-after i)) ∙ again v w .number
 
-  written-standard : standardData (dataOf v) ≡ v .prefix ∷ (withoutPadding (v .prefix % 8) (drop (16 - suffixOctets (v .prefix)) (v .address)) ++ octetsOf (v .name))
-  unfolding standardData
-  written-standard =
-      (λ i. data-prefix i ∷ (withoutPadding (data-prefix i % 8) (data-suffix i) ++ standardName (data-prefix i) (data-after i)))
-      ∙ ap (λ (xs : List ℕ). v .prefix ∷ (withoutPadding (v .prefix % 8) (drop (16 - suffixOctets (v .prefix)) (v .address)) ++ xs)) (again v w .standard)
-
   pub written-value : Shaped v → valueOf (dataOf v) ≡ v
   unfolding valueOf
   written-value s =
       (λ i. valueFrom (data-prefix i) (blank (16 - suffixOctets (data-prefix i)) ++ data-suffix i) (data-after i))
       ∙ own-value v w s (blank (16 - suffixOctets (v .prefix)) ++ drop (16 - suffixOctets (v .prefix)) (v .address))
-      (join-back (v .prefix) (v .address) (w .low) (s .address-long) (s .address-small) (w .clear))
+      (join-own (v .prefix) (v .address) (w .low) (s .address-long) ∙ join-clear (v .prefix) (v .address) (w .low) (s .address-long) (s .address-small) (w .clear))
 
 pub data-small : (v : Value) → Shaped v → Small (dataOf v)
 unfolding dataOf octetsOf
@@ -92,23 +89,3 @@ data-small v s =
     let k = 16 - suffixOctets (v .prefix) in
     small-cons (v .prefix) (drop k (v .address) ++ octetsOf (v .name)) (s .prefix-small)
     (small-append (drop k (v .address)) (octetsOf (v .name)) (small-drop k (v .address) (s .address-small)) (small-take (v .name .length) (v .name .octets) (s .octets-small)))
-
--- padding made zero twice
-padding-again : (p : ℕ) (xs : List ℕ) → withoutPadding p (withoutPadding p xs) ≡ withoutPadding p xs
-unfolding withoutPadding
-padding-again p [] = refl
-padding-again p (x ∷ xs) = rw (mod-mod x (2 ^ (8 - p)))
-
--- the standard form of data is its own
-module _ (octets : List ℕ) (small : Small octets) (f : Fronted octets) (e : nameNumber (prefixOf octets) (afterSuffix octets) ≡ 0) where
-  pub standard-own : standardData (standardData octets) ≡ standardData octets
-  unfolding valueOf valueFrom dataOf
-  standard-own =
-      let d = value-data octets small f e in
-      let v = valueOf octets in
-      let p = prefixOf octets % 8 in
-      let k = address-standard octets small f e in
-      let l = read-long (prefixOf octets) (afterSuffix octets) (rest-small octets small f e) e (aligned octets) (aligned-long octets small f e) in
-      let a : withoutPadding p (drop (16 - suffixOctets (prefixOf octets)) (v .address)) ≡ drop (16 - suffixOctets (prefixOf octets)) (v .address) = ap (withoutPadding p) k ∙ padding-again p (suffixOf octets) ∙ sym k in
-      ap standardData (sym d) ∙ written-standard v l (value-writable octets small f e)
-      ∙ ap (λ (xs : List ℕ). prefixOf octets ∷ (xs ++ octetsOf (v .name))) a ∙ d

@@ -5,6 +5,7 @@ pub mod AcceptedLaws
 pub mod WriteLaws
 pub mod RoundLaws
 pub mod DataLaws
+pub mod Layouts
 pub mod RoundTrip
 pub mod Examples
 pub mod Computing

@@ -4,12 +4,13 @@ use mathlib.Core.Path.{_≡_, refl, ap, _∙_, sym}
 use mathlib.Core.Bool.{Bool, true, false}
 use mathlib.Core.List.{List, []}
 use lib.Dec.{eqb}
-use lib.ListN.{length, take, drop, length-drop, take-append-drop}
+use lib.ListN.{length, take, drop, length-append, length-drop, take-append-drop}
 use lib.Seq.{length-take-le}
 use native.Mathlib.Omega.{arith}
-use borrow.Author.Tests.{eq-eqb, ne-eqb, eqb-true, eqb-false}
+use borrow.Author.Tests.{eqb-true, eqb-false}
 use Rattle.octets.specs.Octets.{blank, Small}
-use Rattle.octets.proofs.OctetLaws.{length-blank, nil-of-length}
+use Rattle.octets.proofs.OctetLaws.{length-blank, small-take, nil-of-length}
+use Rattle.octets.proofs.SmallLaws.{small-append, small-blank}
 use Rattle.octets.proofs.ZeroLaws.{blank-eq}
 use Rattle.labels.specs.Scan.{scanOf}
 use Rattle.labels.specs.Answers.{scanned}
@@ -18,10 +19,11 @@ use Rattle.names.specs.Standard.{standardOf}
 use Rattle.names.specs.Name.{nameOf, heldOf}
 use Rattle.names.specs.declared.Name.{Name}
 use Rattle.names.proofs.FrontLaws.{formed-scan}
-use Rattle.names.proofs.NameLaws.{held-formed, held-standard}
+use Rattle.names.proofs.NameLaws.{held-formed, held-standard, standard-short}
+use Rattle.names.proofs.StandardSmall.{standard-small}
 use Rattle.names.proofs.StandardLaws.{in-standard}
 use Rattle.address.specs.Address.{joinOf, clearTo}
-use Rattle.address.proofs.AddressLaws.{join-length}
+use Rattle.address.proofs.AddressLaws.{join-length, join-small}
 use Rattle.address.proofs.ClearLaws.{clear-join, clear-blank}
 use Rattle.a6.specs.Data.{octetsOf, Shaped}
 use Rattle.a6.specs.Ending.{nameFound, nameNumber, nameOctets, nameIn, valueFrom}
@@ -53,10 +55,39 @@ module _ (l : ℕ) (rest : List ℕ) (small : Small rest) (e : nameNumber l rest
           let n = eqb-false l 0 z in
           fits-some l (standardName l rest) n ∙ rw (standardName, z, name-rest l rest e) (held-standard rest small (name-formed l rest e small n))
 
+  name-short : length (standardName l rest) ≤ 255
+  name-short = go (eqb l 0) refl
+    where
+      go : (t : Bool) → eqb l 0 ≡ t → length (standardName l rest) ≤ 255
+      go true z = rw (standardName, z) (omega arith)
+      go false z = rw (standardName, z, name-rest l rest e) (standard-short rest small (name-formed l rest e small (eqb-false l 0 z)))
+
+  name-small : Small (standardName l rest)
+  name-small = go (eqb l 0) refl
+    where
+      go : (t : Bool) → eqb l 0 ≡ t → Small (standardName l rest)
+      go true z = rw (standardName, z) (small-take 0 rest small)
+      go false z = rw (standardName, z, name-rest l rest e) (standard-small rest small)
+
   module _ (sixteen : List ℕ) (long : length sixteen ≡ 16) where
     pub read-long : length (valueFrom l sixteen rest .address) ≡ 16
     unfolding valueFrom
     read-long = join-length (blank 16) sixteen l (length-blank 16) long
+
+    pub read-shaped : l ≤ 128 → Shaped (valueFrom l sixteen rest)
+    unfolding valueFrom nameOf
+    read-shaped low =
+        let xs = standardName l rest in
+        let n = ap (λ (m : Name). m .octets) name-held in
+        let k = ap (λ (m : Name). m .length) name-held in
+        record {
+          prefix-small = omega arith;
+          address-long = read-long;
+          address-small = join-small (blank 16) sixteen l (length-blank 16) long;
+          octets-long = ap length n ∙ length-append xs (blank (255 - length xs)) ∙ omega (arith, length-blank (255 - length xs), name-short);
+          octets-small = rw n (small-append xs (blank (255 - length xs)) name-small (small-blank (255 - length xs)));
+          length-small = omega (arith, k, name-short);
+        }
 
     pub read-writable : l ≤ 128 → Writable (valueFrom l sixteen rest)
     unfolding valueFrom
@@ -82,7 +113,6 @@ name-again n e k z =
 pub record Again (v : Value) : Type 0 where
   pub number : nameNumber (v .prefix) (octetsOf (v .name)) ≡ 0
   pub name : nameIn (v .prefix) (octetsOf (v .name)) ≡ nameOf (octetsOf (v .name))
-  pub standard : standardName (v .prefix) (octetsOf (v .name)) ≡ octetsOf (v .name)
 
 module _ (v : Value) (w : Writable v) where
   abbrev l : ℕ
@@ -95,7 +125,7 @@ module _ (v : Value) (w : Writable v) where
   again-none z =
       let e : xs ≡ [] = nil-of-length xs (eqb-true (length xs) 0 (sym (fits-none l xs z) ∙ w .fits)) in
       let f = found-none l xs z in
-      record { number = ending-done l xs (rw f) (rw (f, e) (omega arith)); name = name-none l xs z ∙ rw e; standard = rw (standardName, eq-eqb l 0 z) (sym e) }
+      record { number = ending-done l xs (rw f) (rw (f, e) (omega arith)); name = name-none l xs z ∙ rw e }
 
   again-some : (l ≡ 0 → ⊥) → Again v
   again-some z =
@@ -105,7 +135,7 @@ module _ (v : Value) (w : Writable v) where
       let u : nameFound l xs .used ≡ length xs = ap (λ (t : Scanned). t .used) f ∙ k .1 in
       let e = ending-done l xs (ap (λ (t : Scanned). t .number) f ∙ k .0) (omega arith) in
       let r = name-rest l xs e in
-      record { number = e; name = ap heldOf r ∙ held-formed xs (g .0) ∙ ap nameOf (g .1); standard = rw (standardName, ne-eqb l 0 z) (ap standardOf r ∙ g .1) }
+      record { number = e; name = ap heldOf r ∙ held-formed xs (g .0) ∙ ap nameOf (g .1) }
 
   pub again : Again v
   again = go (eqb l 0) refl

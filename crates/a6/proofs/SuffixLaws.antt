@@ -87,20 +87,10 @@ module _ (l : ℕ) (s : List ℕ) (low : l ≤ 128) (long : length s ≡ suffixO
           let q : getD s j 0 % 2 ^ (8 - min 8 (l - i * 8)) ≡ getD (withoutPadding (l % 8) s) j 0 = rw m at (padding-octet l j s small) in
           after-octet right l count i h ∙ rw (f, g) q
 
--- an address whose first bits are zero is the join of zeros and of its own suffix
-module _ (l : ℕ) (a : List ℕ) (low : l ≤ 128) (long : length a ≡ 16) (small : Small a) where
-  join-clear : clearTo l a ≡ true → joinOf (blank 16) a l ≡ a
-  join-clear c =
-      bit-ext (joinOf (blank 16) a l) a (after-length a l long) long (join-small (blank 16) a l (length-blank 16) long) small (λ i p. go i p (ltb i l) refl)
-    where
-      go : (i : ℕ) → i < 128 → (t : Bool) → ltb i l ≡ t → bitAt (joinOf (blank 16) a l) i ≡ bitAt a i
-      go i p true e =
-          join-bit-high (blank 16) a l (length-blank 16) long i (ltb-true i l e) ∙ clear-bits 128 (blank 16) (omega arith) (clear-blank 128 16) i p
-          ∙ sym (clear-bits l a low c i (ltb-true i l e))
-      go i p false e = join-bit-low (blank 16) a l (length-blank 16) long i (ltb-false i l e)
-
-  join-own : joinOf (blank 16) (blank (l / 8) ++ drop (l / 8) a) l ≡ joinOf (blank 16) a l
-  join-own =
+-- the octets that the prefix fills do not count
+module _ (l : ℕ) (a : List ℕ) (low : l ≤ 128) (long : length a ≡ 16) where
+  join-whole : joinOf (blank 16) (blank (l / 8) ++ drop (l / 8) a) l ≡ joinOf (blank 16) a l
+  join-whole =
       ext-getD 0 (joinOf (blank 16) own l) (joinOf (blank 16) a l) (after-length own l right ∙ sym (after-length a l long))
       (λ i h. go i (omega (arith, after-length own l right)) (ltb i (l / 8)) refl)
     where
@@ -121,8 +111,20 @@ module _ (l : ℕ) (a : List ℕ) (low : l ≤ 128) (long : length a ≡ 16) (sm
           let f : getD own i 0 ≡ getD a i 0 = rw k at (right-octet (l / 8) (i - l / 8) (drop (l / 8) a) ∙ getD-drop (l / 8) a (i - l / 8) 0) in
           after-octet own l right i h ∙ rw f (sym (after-octet a l long i h))
 
-  pub join-back : clearTo l a ≡ true → joinOf (blank 16) (blank (16 - suffixOctets l) ++ drop (16 - suffixOctets l) a) l ≡ a
-  join-back c = let k : 16 - suffixOctets l ≡ l / 8 = omega arith in rw k (join-own ∙ join-clear c)
+  pub join-own : joinOf (blank 16) (blank (16 - suffixOctets l) ++ drop (16 - suffixOctets l) a) l ≡ joinOf (blank 16) a l
+  join-own = let k : 16 - suffixOctets l ≡ l / 8 = omega arith in rw k join-whole
+
+-- an address whose first bits are zero is the join of zeros and of itself
+module _ (l : ℕ) (a : List ℕ) (low : l ≤ 128) (long : length a ≡ 16) (small : Small a) where
+  pub join-clear : clearTo l a ≡ true → joinOf (blank 16) a l ≡ a
+  join-clear c =
+      bit-ext (joinOf (blank 16) a l) a (after-length a l long) long (join-small (blank 16) a l (length-blank 16) long) small (λ i p. go i p (ltb i l) refl)
+    where
+      go : (i : ℕ) → i < 128 → (t : Bool) → ltb i l ≡ t → bitAt (joinOf (blank 16) a l) i ≡ bitAt a i
+      go i p true e =
+          join-bit-high (blank 16) a l (length-blank 16) long i (ltb-true i l e) ∙ clear-bits 128 (blank 16) (omega arith) (clear-blank 128 16) i p
+          ∙ sym (clear-bits l a low c i (ltb-true i l e))
+      go i p false e = join-bit-low (blank 16) a l (length-blank 16) long i (ltb-false i l e)
 
 -- octets copied to the last places over zeros, and the zeros before them
 take-blank : (k n : ℕ) → k ≤ n → take k (blank n) ≡ blank k

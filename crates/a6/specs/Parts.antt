@@ -1,13 +1,14 @@
 -- The code's own: what functions of our own layers are given and promise. Nothing that a reader must believe.
-use Prim.Native.Nat.{ℕ, _+_, _-_, _≤_}
+use Prim.Native.Nat.{ℕ, _+_, _-_, _/_, _≤_, max}
 use mathlib.Core.Path.{_≡_}
 use mathlib.Core.Bool.{Bool}
 use mathlib.Core.List.{List, _∷_, _++_}
 use lib.ListN.{length, take, drop}
 use Rattle.octets.specs.Octets.{blank}
-use Rattle.address.specs.Address.{joinOf}
-use Rattle.a6.specs.Data.{longest, suffixOctets}
+use Rattle.octets.specs.Answers.{orElse}
+use Rattle.a6.specs.Data.{longest, suffixOctets, octetsOf}
 use Rattle.a6.specs.Ending.{nameFound, nameNumber, valueFrom}
+use Rattle.a6.specs.Accepted.{valueNumber, roomNumber}
 use Rattle.a6.specs.declared.Value.{Value}
 use Rattle.a6.specs.declared.inside.Found.{Found}
 
@@ -43,3 +44,10 @@ pub record Sound (octets : List ℕ) (f : Found) : Type 0 where
 -- after it, the name
 abbrev pub laid : ℕ → List ℕ → ℕ → ℕ → List ℕ → List ℕ
 laid prefix address before after name = take before address ++ (prefix ∷ (drop after address ++ name))
+
+-- the same of a value, where behind the prefix length stands what neither the prefix fills nor stands before it; and the number for it
+abbrev pub laidOf : Value → ℕ → List ℕ
+laidOf v before = laid (v .prefix) (v .address) before (max before (v .prefix / 8)) (octetsOf (v .name))
+
+abbrev pub laidNumber : Value → ℕ → ℕ → ℕ
+laidNumber v before room = orElse (valueNumber v) (roomNumber (laidOf v before) room)

@@ -1,6 +1,6 @@
 // What only our own layers call: the reader and the writer in parts, which each layout of the same values puts together; outputs are lent.
 ghost use mathlib.Core.Path.{_≡_};
-ghost use Prim.Native.Nat.{_+_, _-_, _%_, _^_, _≤_, _<_};
+ghost use Prim.Native.Nat.{_+_, _-_, _%_, _^_, _≤_, _<_, max};
 ghost use lib.ListN.{length, drop};
 ghost use Rattle.octets.specs.Octets.{blank};
 ghost use Rattle.octets.specs.Answers.{answerBy, outBy};
@@ -9,7 +9,7 @@ ghost use Rattle.a6.specs.Data.{longest, suffixOctets, blankValue};
 ghost use Rattle.a6.specs.Ending.{nameFound, nameNumber, nameIn, readingFor};
 ghost use Rattle.a6.specs.Read.{readNumber, valueOf};
 ghost use Rattle.a6.specs.Accepted.{nameFits, valueNumber, roomNumber};
-ghost use Rattle.a6.specs.Parts.{byParts, lastAt, valueAt, foundAt, Sound, laid};
+ghost use Rattle.a6.specs.Parts.{byParts, lastAt, valueAt, foundAt, Sound, laid, laidOf, laidNumber};
 ghost use Rattle.names.specs.Name.{nameOf};
 ghost use mathlib.Core.List.{[]};
 
@@ -147,8 +147,33 @@ pub fn put_name(rest: &[u8], prefix: u8, standard: bool, out: &mut [u8]) -> u8
     n as u8
 }
 
+// The data of a value by its parts, with zeros after it, and its length, in the layout that has `before` octets of the address before the prefix length, and
+// behind it those that neither the prefix fills nor stand before it: 10 for a prefix length over 128, 12 for a value that a reader cannot give, 7 for an
+// output that is too short.
+pub fn lay(
+    prefix: u8,
+    address: &[u8],
+    octets: &[u8],
+    size: u8,
+    before: usize,
+    out: &mut [u8],
+) -> octets::Answer
+    requires { ⌜ (length (now address) ≡ 16) × (length (now octets) ≡ 255) × (before ≤ 16) ⌝ }
+    ensures { λ r. ⌜ r ≡ answerBy (laidNumber (byParts prefix (now (address .entry)) (now (octets .entry)) size) before (length (now (out .entry)))) (length (laidOf (byParts prefix (now (address .entry)) (now (octets .entry)) size) before)) 0 ⌝ }
+    ensures { λ _. ⌜ now (out .exit) ≡ outBy (laidNumber (byParts prefix (now (address .entry)) (now (octets .entry)) size) before (length (now (out .entry)))) (laidOf (byParts prefix (now (address .entry)) (now (octets .entry)) size) before) (length (now (out .entry))) ⌝ }
+{
+    octets::clear(out);
+    let count = octets::wide(size);
+    let number = value_number(prefix, address, octets, count);
+    if number != 0 {
+        return octets::refused(number);
+    }
+    let after = larger(before, octets::wide(prefix / 8));
+    put_data(prefix, address, before, after, &octets[..count], out)
+}
+
 // The number for a value by its parts, the room aside.
-pub fn value_number(prefix: u8, address: &[u8], octets: &[u8], count: usize) -> u8
+fn value_number(prefix: u8, address: &[u8], octets: &[u8], count: usize) -> u8
     requires { ⌜ (length (now address) ≡ 16) × (length (now octets) ≡ 255) × (count ≤ 255) ⌝ }
     ensures { λ r. ⌜ r ≡ valueNumber (byParts prefix (now (address .entry)) (now (octets .entry)) count) ⌝ }
 {
@@ -169,7 +194,7 @@ pub fn value_number(prefix: u8, address: &[u8], octets: &[u8], count: usize) -> 
 
 // Data over zeros, and its length: `before` octets of the address, the prefix length, the octets of the address from `after` on, the name; 7 where there
 // is no room.
-pub fn put_data(
+fn put_data(
     prefix: u8,
     address: &[u8],
     before: usize,
@@ -246,4 +271,11 @@ fn unpadded(x: u8, p: u8) -> u8
     ensures { λ r. ⌜ r ≡ x % 2 ^ (8 - p) ⌝ }
 {
     x & (255u8 >> p)
+}
+
+// The larger of two.
+fn larger(x: usize, y: usize) -> usize
+    ensures { λ r. ⌜ r ≡ max x y ⌝ }
+{
+    if x < y { y } else { x }
 }

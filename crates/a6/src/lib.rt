@@ -30,18 +30,11 @@ pub fn write(value: Value, out: &mut [u8]) -> octets::Answer
     ensures { λ r. ⌜ r ≡ writeAnswer value (length (now (out .entry))) ⌝ }
     ensures { λ _. ⌜ now (out .exit) ≡ writeOut value (length (now (out .entry))) ⌝ }
 {
-    octets::clear(out);
     let prefix = value.prefix;
     let address = value.address;
     let name = value.name;
     let octets = name.octets;
-    let length = octets::wide(name.length);
-    let number = inside::value_number(prefix, &address, &octets, length);
-    if number != 0 {
-        return octets::refused(number);
-    }
-    let whole = 16 - inside::suffix_octets(prefix);
-    inside::put_data(prefix, &address, 0, whole, &octets[..length], out)
+    inside::lay(prefix, &address, &octets, name.length, 0, out)
 }
 
 pub mod inside;

@@ -1,18 +1,17 @@
 -- Laws of what an answer becomes at the C interface.
 use Prim.Native.Nat.{ℕ, zero, suc, _-_, _≤_, _<_}
 use mathlib.Core.Path.{_≡_, refl, ap, _∙_, sym}
-use mathlib.Core.Bool.{Bool, true, false}
+use mathlib.Core.Bool.{Bool, true, false, not}
 use mathlib.Core.List.{List, [], _∷_, _++_, append-nil, append-assoc}
 use lib.Dec.{eqb, ltb}
-use lib.ListN.{length, getD, take, drop, set, length-append, drop-of-length-le}
-use lib.Seq.{paste, take-all, take-at, drop-at, set-at}
-use native.Mathlib.Nat.{zero-add}
+use lib.ListN.{length, take, drop, set, length-append, length-take, length-drop, drop-of-length-le}
+use lib.Seq.{length-take-le, take-all, take-at, drop-at, set-at}
 use native.Mathlib.Omega.{arith}
 use borrow.Author.Tests.{eq-eqb, ne-eqb, lt-ltb, le-ltb, eqb-true, eqb-false, ltb-true, ltb-false}
 use Rattle.octets.specs.Octets.{blank}
 use Rattle.octets.specs.declared.Answer.{Answer}
 use Rattle.octets.specs.Answers.{answerBy, outBy}
-use Rattle.octets.proofs.AnswerLaws.{not-nought, refused-out, by-number}
+use Rattle.octets.proofs.AnswerLaws.{earns-zero, not-nought, refused-out, by-number}
 use Rattle.octets.proofs.OctetLaws.{length-blank}
 use Rattle.octets.proofs.BoolLaws.{clash}
 use Rattle.a6.specs.declared.Value.{Value}
@@ -111,10 +110,6 @@ figures-written a b (x ∷ []) h = let z : ⊥ = omega arith in absurd z
 figures-written a b (x ∷ y ∷ []) h = refl
 figures-written a b (x ∷ y ∷ z ∷ fs) h = let w : ⊥ = omega arith in absurd w
 
--- a copy over a whole output
-pub paste-whole : (d s : List ℕ) (n : ℕ) → length d ≡ n → paste d 0 s n ≡ take n s
-paste-whole d s n h = rw (zero-add n, drop-of-length-le d {i = n} (omega arith)) (append-nil (take n s))
-
 -- sixteen octets put into a value, and those of the name after them
 abbrev pub addressed : List ℕ → List ℕ → List ℕ
 addressed v address = take 1 v ++ (address ++ drop 16 (drop 1 v))
@@ -167,14 +162,21 @@ unfolding outBy
 out-alike zero a b room g = ap (λ (x : List ℕ). x ++ blank (room - length x)) (g refl)
 out-alike (suc j) a b room g = refl
 
--- what the tests of a layout say of data, and the value put into the slice by it
-pub read-told : (m : ℕ) (octets : List ℕ) (f : Found) (number : ℕ) (v : Value) {r : ℕ} {end : List ℕ} → m ≡ valueSize → Tells octets f number v
-    → (r ≡ f .number) × (end ≡ outBy r (valueOctets (valueAt octets f)) valueSize) → (r ≡ exportedReadNumber m number) × (end ≡ outBy r (valueOctets v) m)
+pub read-fit : (m k r : ℕ) (result : List ℕ) {end : List ℕ} → m ≡ valueSize → (r ≡ k) × (end ≡ outBy r result valueSize) → (r ≡ exportedReadNumber m k) × (end ≡ outBy r result m)
 unfolding exportedReadNumber
-read-told m octets f number v {r} {end} h t p = (
-  p .0 ∙ t .0 ∙ rw (eq-eqb m valueSize h),
-  rw (← h) at (p .1) ∙ out-alike r _ _ m (λ z. ap valueOctets (t .1 (sym (p .0 ∙ t .0) ∙ z) .1)),
-)
+read-fit m k r result h p = (p .0 ∙ rw (eq-eqb m valueSize h), p .1 ∙ ap (outBy r result) (sym h))
+
+-- 0 comes out only where 0 went in
+read-zero : (m k : ℕ) → exportedReadNumber m k ≡ 0 → k ≡ 0
+unfolding exportedReadNumber
+read-zero m k e = earns-zero (not (eqb m valueSize)) 4 k e .1
+
+-- what the tests of a layout say of data, and what has become of the slice by it
+pub read-told : (m : ℕ) (octets : List ℕ) (f : Found) (number : ℕ) (v : Value) (r : ℕ) {end : List ℕ} → Tells octets f number v
+    → (r ≡ exportedReadNumber m (f .number)) × (end ≡ outBy r (valueOctets (valueAt octets f)) m) → (r ≡ exportedReadNumber m number) × (end ≡ outBy r (valueOctets v) m)
+read-told m octets f number v r t p =
+    let e = p .0 ∙ ap (exportedReadNumber m) (t .0) in
+    (e, p .1 ∙ out-alike r _ _ m (λ z. ap valueOctets (t .1 (read-zero m number (sym e ∙ z)) .1)))
 
 -- ---- writing, in each layout: 5 before everything else
 module _ (m n : ℕ) where
@@ -218,8 +220,11 @@ pub kept-if : (b : Bool) (out : List ℕ) → b ≡ false → clearedIf b out �
 unfolding clearedIf
 kept-if b out e = rw e
 
--- the value of octets, from its copied parts
-pub value-taken : (xs a b : List ℕ) → a ≡ take 16 (drop 1 xs) → b ≡ take 255 (drop 18 xs)
-    → _≡_ {A = Value} (record { prefix = getD xs 0 0; address = a; name = record { octets = b; length = getD xs 17 0 } }) (valueIn xs)
-unfolding valueIn
-value-taken xs a b p q = rw (p, q)
+-- the parts of a value in so many octets
+module _ (xs : List ℕ) where
+  pub value-parts : length xs ≡ valueSize → (length (take 16 (drop 1 xs)) ≡ 16) × (length (take 255 (drop 18 xs)) ≡ 255)
+  value-parts e = (length-take-le 16 (drop 1 xs) (omega (arith, length-drop 1 xs)), length-take-le 255 (drop 18 xs) (omega (arith, length-drop 18 xs)))
+
+  pub address-short : length (valueIn xs .address) ≤ 16
+  unfolding valueIn
+  address-short = omega (arith, length-take 16 (drop 1 xs))

@@ -1,14 +1,17 @@
 // The C interface: each function takes slices and numbers, asks nothing of its caller, and returns the number of 01 (What comes back).
 ghost use mathlib.Core.Path.{_≡_};
 ghost use mathlib.Core.Bool.{true};
+ghost use Prim.Native.Nat.{_≤_};
 ghost use lib.ListN.{length};
 ghost use Rattle.octets.specs.Octets.{blank, flat};
-ghost use Rattle.octets.specs.Answers.{outBy};
+ghost use Rattle.octets.specs.Answers.{answerBy, outBy};
 ghost use Rattle.names.specs.Standard.{standardOf};
 ghost use Rattle.names.specs.Answers.{standardNumber, standardAnswer};
 ghost use Rattle.a6.specs.Read.{readNumber, valueOf};
 ghost use Rattle.a6.specs.Write.{dataOf, writeNumber, writeAnswer};
-ghost use Rattle.a6.specs.Parts.{valueAt, Sound};
+ghost use Rattle.a6.specs.Parts.{valueAt, Sound, laidOf, laidNumber};
+ghost use Rattle.draft.specs.Read.{draftNumber, draftValue};
+ghost use Rattle.draft.specs.Write.{draftData, draftWriteNumber, draftAnswer};
 ghost use Rattle.plan.specs.Check.{checkOf};
 ghost use Rattle.plan.specs.Part.{ownerPart};
 ghost use Rattle.plan.specs.Graph.{graphOf};
@@ -40,11 +43,7 @@ pub extern "C" fn a6plan_read(rdata: &[u8], value: &mut [u8]) -> u32
     ensures number { λ r. ⌜ r ≡ exportedReadNumber (length (now (value .entry))) (readNumber (now (rdata .entry))) ⌝ }
     ensures valued { λ r. ⌜ now (value .exit) ≡ outBy r (valueOctets (valueOf (now (rdata .entry)))) (length (now (value .entry))) ⌝ }
 {
-    octets::clear(value);
-    if value.len() != VALUE {
-        return 5;
-    }
-    put_value(rdata, a6::inside::check(rdata), value)
+    read_into(rdata, a6::inside::check(rdata), value)
 }
 
 // The A6 data of a value of 273 octets, with zeros after it; figures: the octets written and 0.
@@ -54,11 +53,26 @@ pub extern "C" fn a6plan_write(value: &[u8], out: &mut [u8], figures: &mut [u32]
     ensures output { λ r. ⌜ now (out .exit) ≡ outBy r (dataOf (valueIn (now (value .entry)))) (length (now (out .entry))) ⌝ }
     ensures figured { λ r. ⌜ now (figures .exit) ≡ exportedFigures r (writeAnswer (valueIn (now (value .entry))) (length (now (out .entry)))) (length (now (figures .entry))) ⌝ }
 {
-    if misfits(value.len(), out, figures) {
-        return 5;
-    }
-    let answer = a6::write(take_value(value), out);
-    figure(answer, figures)
+    write_from(value, 0, out, figures)
+}
+
+// The value that data of the 1998 layout stands for, in 273 octets; all zero on a refusal.
+#[no_mangle]
+pub extern "C" fn a6plan_read_1998(rdata: &[u8], value: &mut [u8]) -> u32
+    ensures number { λ r. ⌜ r ≡ exportedReadNumber (length (now (value .entry))) (draftNumber (now (rdata .entry))) ⌝ }
+    ensures valued { λ r. ⌜ now (value .exit) ≡ outBy r (valueOctets (draftValue (now (rdata .entry)))) (length (now (value .entry))) ⌝ }
+{
+    read_into(rdata, draft::inside::check(rdata), value)
+}
+
+// The data of a value of 273 octets in the 1998 layout, with zeros after it; figures: the octets written and 0.
+#[no_mangle]
+pub extern "C" fn a6plan_write_1998(value: &[u8], out: &mut [u8], figures: &mut [u32]) -> u32
+    ensures number { λ r. ⌜ r ≡ exportedWriteNumber (length (now (value .entry))) (length (now (figures .entry))) (draftWriteNumber (valueIn (now (value .entry))) (length (now (out .entry)))) ⌝ }
+    ensures output { λ r. ⌜ now (out .exit) ≡ outBy r (draftData (valueIn (now (value .entry)))) (length (now (out .entry))) ⌝ }
+    ensures figured { λ r. ⌜ now (figures .exit) ≡ exportedFigures r (draftAnswer (valueIn (now (value .entry))) (length (now (out .entry)))) (length (now (figures .entry))) ⌝ }
+{
+    write_from(value, 16, out, figures)
 }
 
 // Whether a table is in order: 0, or 1, 2 or 3.
@@ -142,6 +156,18 @@ pub extern "C" fn a6plan_collapse(
     report(answer, out, figures)
 }
 
+// The number of what a reader's tests say at this interface, and the value of 273 octets where it is 0, else zeros.
+fn read_into(rdata: &[u8], found: a6::inside::Found, value: &mut [u8]) -> u32
+    requires { ⌜ (found .number ≡ 0 → Sound (now rdata) found) ⌝ }
+    ensures { λ r. ⌜ (r ≡ exportedReadNumber (length (now (value .entry))) (found .number)) × (now (value .exit) ≡ outBy r (valueOctets (valueAt (now (rdata .entry)) found)) (length (now (value .entry)))) ⌝ }
+{
+    octets::clear(value);
+    if value.len() != VALUE {
+        return 5;
+    }
+    put_value(rdata, found, value)
+}
+
 // The number of what a reader's tests say, and over zeros the value of 273 octets where it is 0.
 fn put_value(rdata: &[u8], found: a6::inside::Found, value: &mut [u8]) -> u32
     requires { ⌜ (found .number ≡ 0 → Sound (now rdata) found) × (now value ≡ blank valueSize) ⌝ }
@@ -188,24 +214,20 @@ fn wiped(out: &mut [u8], figures: &mut [u32]) -> bool
     true
 }
 
-// The value of 273 octets.
-fn take_value(value: &[u8]) -> a6::Value
-    requires { ⌜ length (now value) ≡ valueSize ⌝ }
-    ensures { λ r. ⌜ r ≡ valueIn (now (value .entry)) ⌝ }
+// The data of a value of 273 octets in the layout that has `before` octets of the address before the prefix length, with zeros after it; figures: the octets
+// written and 0.
+fn write_from(value: &[u8], before: usize, out: &mut [u8], figures: &mut [u32]) -> u32
+    requires { ⌜ before ≤ 16 ⌝ }
+    ensures number { λ r. ⌜ r ≡ exportedWriteNumber (length (now (value .entry))) (length (now (figures .entry))) (laidNumber (valueIn (now (value .entry))) before (length (now (out .entry)))) ⌝ }
+    ensures output { λ r. ⌜ now (out .exit) ≡ outBy r (laidOf (valueIn (now (value .entry))) before) (length (now (out .entry))) ⌝ }
+    ensures figured { λ r. ⌜ now (figures .exit) ≡ exportedFigures r (answerBy (laidNumber (valueIn (now (value .entry))) before (length (now (out .entry)))) (length (laidOf (valueIn (now (value .entry))) before)) 0) (length (now (figures .entry))) ⌝ }
 {
-    let mut address = [0u8; 16];
-    octets::inside::copy(value, 1, 16, &mut address, 0);
-    let mut octets = [0u8; 255];
-    octets::inside::copy(value, 18, 255, &mut octets, 0);
-    let name = names::Name {
-        octets,
-        length: value[17],
-    };
-    a6::Value {
-        prefix: value[0],
-        address,
-        name,
+    if misfits(value.len(), out, figures) {
+        return 5;
     }
+    let size = value[17];
+    let answer = a6::inside::lay(value[0], &value[1..17], &value[18..273], size, before, out);
+    figure(answer, figures)
 }
 
 // The figures of an answer and its number at this interface; the output is zeros where the figures are not two, and stays else: an operation

@@ -3,6 +3,7 @@ pub mod Merged
 pub mod WriteLaws
 pub mod RoundLaws
 pub mod StandardLaws
+pub mod StandardSmall
 pub mod AnswerLaws
 pub mod FrontLaws
 pub mod NameLaws

@@ -3,7 +3,7 @@ use Prim.Native.Nat.{ℕ, zero, suc, _+_, _-_, _≤_, _<_}
 use mathlib.Core.Path.{_≡_, refl, _∙_}
 use mathlib.Core.List.{List, [], _∷_, _++_, append-nil}
 use lib.ListN.{length, take, drop, set, length-set, length-replicate}
-use lib.Seq.{getD-drop, drop-length}
+use lib.Seq.{take-take, getD-drop, drop-length}
 use native.Mathlib.Omega.{arith}
 use native.Mathlib.Nat.{sub-zero, suc-sub-suc}
 use borrow.Author.Fill.{fill-more}
@@ -75,3 +75,10 @@ small-take = under-take 256
 pub nil-of-length : (xs : List ℕ) → length xs ≡ 0 → xs ≡ []
 nil-of-length [] h = refl
 nil-of-length (x ∷ xs) h = let z : ⊥ = omega arith in absurd z
+
+-- a part of a part
+pub take-drop-take : (n k m : ℕ) (l : List ℕ) → k + n ≤ m → take n (drop k (take m l)) ≡ take n (drop k l)
+take-drop-take n zero m l h = take-take n m l (omega arith)
+take-drop-take n (suc k) zero l h = let z : ⊥ = omega arith in absurd z
+take-drop-take n (suc k) (suc m) [] h = refl
+take-drop-take n (suc k) (suc m) (x ∷ l) h = take-drop-take n k m l (omega arith)

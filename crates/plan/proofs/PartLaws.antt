@@ -10,6 +10,7 @@ use native.Mathlib.Omega.{arith}
 use borrow.Author.Tests.{eq-eqb, ne-eqb, eqb-true, eqb-false, lt-ltb, le-ltb, ltb-true, ltb-false}
 use Rattle.octets.specs.Octets.{Small}
 use Rattle.octets.proofs.BoolLaws.{clash}
+use Rattle.octets.proofs.OctetLaws.{take-drop-take}
 use Rattle.labels.specs.Scan.{scanFrom, scanOf, fills, wellFormed}
 use Rattle.names.specs.Standard.{inStandardForm}
 use Rattle.names.proofs.StandardLaws.{in-standard}
@@ -20,7 +21,7 @@ use Rattle.plan.specs.Check.{checkOf, InOrder}
 use Rattle.plan.proofs.OrderLaws.{order-length, order-count, order-good}
 use Rattle.plan.specs.Part.{ownerWithin, emptyPart, ownerPart}
 use Rattle.plan.proofs.LayoutLaws.{record-fits, record-small}
-use Rattle.plan.proofs.RecordLaws.{owner-small, owner-short, take-drop-take}
+use Rattle.plan.proofs.RecordLaws.{owner-small, owner-short}
 
 take-length-take : (n : ℕ) (l : List ℕ) → take (length (take n l)) l ≡ take n l
 take-length-take zero l = refl

@@ -3,12 +3,12 @@ use Prim.Native.Nat.{ℕ, zero, suc, _+_, _-_, _*_, _/_, _%_, _^_, _≤_, _<_}
 use mathlib.Core.Path.{_≡_, refl, ap, _∙_, sym}
 use mathlib.Core.List.{List, [], _∷_, _++_, append-assoc}
 use lib.ListN.{length, getD, take, drop, length-append, length-take, length-drop, take-append-drop}
-use lib.Seq.{length-take-le, take-take, getD-take, take-at, drop-at, take-all, drop-cons, drop-drop}
+use lib.Seq.{length-take-le, getD-take, take-at, drop-at, take-all, drop-cons, drop-drop}
 use native.Mathlib.Omega.{arith}
 use Rattle.octets.specs.Octets.{Small}
 use Rattle.octets.specs.Numbers.{valueOf, octetsOf}
 use Rattle.octets.proofs.NumberLaws.{octets-length, value-octets-all, octets-value}
-use Rattle.octets.proofs.OctetLaws.{small-take, small-drop}
+use Rattle.octets.proofs.OctetLaws.{small-take, small-drop, take-drop-take}
 use Rattle.plan.specs.Layout.{
   recordSize,
   addressSize,
@@ -69,13 +69,6 @@ owner-short r =
     let b = length-drop 1 s in
     let d = length-take slotSize (drop ownerPlace r) in
     omega arith
-
--- a part of a part
-pub take-drop-take : (n k m : ℕ) (l : List ℕ) → k + n ≤ m → take n (drop k (take m l)) ≡ take n (drop k l)
-take-drop-take n zero m l h = take-take n m l (omega arith)
-take-drop-take n (suc k) zero l h = let z : ⊥ = omega arith in absurd z
-take-drop-take n (suc k) (suc m) [] h = refl
-take-drop-take n (suc k) (suc m) (x ∷ l) h = take-drop-take n k m l (omega arith)
 
 -- all fields but the TTL stand before it
 module _ (r s : List ℕ) (e : take ttlPlace r ≡ take ttlPlace s) where

@@ -6,6 +6,7 @@ use crate::generate::forward::{among, one_name, two_each, Tangle};
 use crate::generate::names::{merging, mixed, standards, Name};
 use crate::generate::plan::{a6_record, name, realistic, worst, MOST, RECORD};
 use crate::generate::{a6, examples, Random};
+use crate::layout::Layout;
 use crate::reference::a6::VALUE;
 use crate::text::grouped;
 use crate::{ffi, reference};
@@ -36,6 +37,8 @@ const DATA: Option<f64> = Some(1.5);
 const CALL: Option<f64> = Some(2.0);
 /// The same for the tables that are worst for the check.
 const WORST: Option<f64> = Some(4.0);
+/// The bound on the library's time for data of the 1998 draft over its time for A6 data.
+const LAYOUT: Option<f64> = Some(1.2);
 /// The bound on growth: the most over the least at 64, 256 and 1,024 records.
 const GROWTH: Option<f64> = Some(1.2);
 /// The design says that a lookup should cost little more than the check, and gives no number.
@@ -77,8 +80,6 @@ pub fn all() -> Vec<Row> {
 // Both sides of the exports.
 
 type Standard = fn(&[u8], &mut [u8], &mut [u32]) -> u32;
-type Read = fn(&[u8], &mut [u8]) -> u32;
-type Write = fn(&[u8], &mut [u8], &mut [u32]) -> u32;
 type Check = fn(&[u8]) -> u32;
 type Owner = fn(&[u8], usize, &mut [u32]) -> u32;
 type Lookup = fn(&[u8], &[u8], u32, &mut [u8], &mut [u32], &mut [u32]) -> u32;
@@ -111,18 +112,16 @@ fn standard(names: &'static [Vec<u8>]) -> [Side; 2] {
     })
 }
 
-fn read(set: &'static [Vec<u8>]) -> [Side; 2] {
-    let exports: [Read; 2] = [ffi::read, reference::a6::read];
-    sides(exports, VALUE, move |read, value, _| {
+fn read(layout: Layout, set: &'static [Vec<u8>]) -> [Side; 2] {
+    sides(layout.readers(), VALUE, move |read, value, _| {
         for data in set {
             black_box(read(black_box(data), value));
         }
     })
 }
 
-fn write(values: &'static [[u8; VALUE]]) -> [Side; 2] {
-    let exports: [Write; 2] = [ffi::write, reference::a6::write];
-    sides(exports, 272, move |write, out, figures| {
+fn write(layout: Layout, values: &'static [[u8; VALUE]]) -> [Side; 2] {
+    sides(layout.writers(), 272, move |write, out, figures| {
         for value in values {
             black_box(write(black_box(value), out, figures));
         }
@@ -295,15 +294,25 @@ impl Rows {
         let usual = (0..SET).map(|_| usual_data(&mut random)).collect();
         let mut mixed = vec![Vec::new(); SET];
         for data in &mut mixed {
-            a6::good_data(&mut random, &mut made, data);
+            a6::good_data(&mut random, Layout::A6, &mut made, data);
         }
-        for (kind, set) in [("usual", keep(usual)), ("mixed", keep(mixed))] {
+        for (kind, set) in [("usual", usual), ("mixed", mixed)] {
+            // The same values in both layouts, and the same spelling of their names.
+            let relaid: Vec<Vec<u8>> = set.iter().map(|data| a6::relaid(data, 0)).collect();
             let mut values = vec![[0; VALUE]; SET];
             for (data, value) in set.iter().zip(&mut values) {
                 assert_eq!(reference::a6::read(data, value), 0);
             }
-            self.work(format!("A6 read, {kind} data"), DATA, SET, read(set));
-            self.work(format!("A6 write, {kind} values"), DATA, SET, write(keep(values)));
+            let values = keep(values);
+            let subject = |layout: Layout, verb: &str, of: &str| format!("{layout} {verb}, {kind} {of}");
+            for (layout, set) in [(Layout::A6, keep(set)), (Layout::Draft, keep(relaid))] {
+                self.work(subject(layout, "read", "data"), DATA, SET, read(layout, set));
+                self.work(subject(layout, "write", "values"), DATA, SET, write(layout, values));
+            }
+            for (verb, of) in [("read", "data"), ("write", "values")] {
+                let over = [Layout::Draft, Layout::A6].map(|layout| subject(layout, verb, of));
+                self.add(format!("{}, over A6 {verb}", over[0]), LAYOUT, Kind::Over(over));
+            }
         }
     }
 

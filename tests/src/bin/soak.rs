@@ -12,6 +12,6 @@ fn main() {
     let calls = asked.next().unwrap_or(1_000_000);
     let seed = asked.next().unwrap_or(1);
     for (function, met) in FUNCTIONS.iter().zip(soak(seed, calls as usize)) {
-        println!("{function:<9} {met}");
+        println!("{function:<10} {met}");
     }
 }

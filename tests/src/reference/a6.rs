@@ -1,4 +1,4 @@
-//! A6 data (01, A6 data): the reader and the writer.
+//! A6 data (01, A6 data): the reader and the writer, and what the 1998 draft's layout shares with them.
 //!
 //! A value is 273 octets: prefix length, sixteen address octets, name length, 255 name octets.
 
@@ -7,15 +7,33 @@ use super::names;
 /// Octets of a value.
 pub const VALUE: usize = 273;
 /// Where the name length stands in a value, and the name's octets.
-const LENGTH: usize = 17;
+pub const LENGTH: usize = 17;
 const NAME: usize = 18;
 /// The longest prefix.
-const LONGEST: u8 = 128;
+pub const LONGEST: u8 = 128;
 
 /// Octets of suffix after this prefix length.
 #[inline(always)]
 fn suffix_of(length: u8) -> usize {
     16 - length as usize / 8
+}
+
+/// Puts the name that data end with in the value; there is one exactly when the prefix length is not 0. Gives 0, or else
+/// 11, 12 or 13 and leaves the value as it is.
+#[inline(always)]
+pub fn read_name(length: u8, name: &[u8], value: &mut [u8]) -> u32 {
+    if length == 0 {
+        return if name.is_empty() { 0 } else { 13 };
+    }
+    let scan = names::scan(name);
+    if scan.number != 0 {
+        return scan.number;
+    }
+    if scan.used < name.len() {
+        return 13;
+    }
+    value[LENGTH] = names::put_standard(name, scan.standard, &mut value[NAME..]) as u8;
+    0
 }
 
 /// The answer of `a6plan_read`: 5 for a value not of 273 octets, then what is wrong with the data from left to right,
@@ -35,17 +53,9 @@ pub fn read(data: &[u8], value: &mut [u8]) -> u32 {
         return 11;
     }
     let (suffix, name) = data[1..].split_at(suffix);
-    if length > 0 {
-        let scan = names::scan(name);
-        if scan.number != 0 {
-            return scan.number;
-        }
-        if scan.used < name.len() {
-            return 13;
-        }
-        value[LENGTH] = names::put_standard(name, scan.standard, &mut value[NAME..]) as u8;
-    } else if !name.is_empty() {
-        return 13;
+    let number = read_name(length, name, value);
+    if number != 0 {
+        return number;
     }
     value[0] = length;
     value[LENGTH - suffix.len()..LENGTH].copy_from_slice(suffix);
@@ -55,11 +65,17 @@ pub fn read(data: &[u8], value: &mut [u8]) -> u32 {
     0
 }
 
-/// The answer of `a6plan_write`: 5 for a value not of 273 octets or figures not of two, 10 for a prefix length over
-/// 128, 12 for another value that no reading gives, 7 where the output is short, then 0 with the data, zeros after
-/// them, and the octets written and 0.
-#[inline(never)]
-pub fn write(value: &[u8], out: &mut [u8], figures: &mut [u32]) -> u32 {
+/// The answer of a writer: 5 for a value not of 273 octets or figures not of two, 10 for a prefix length over 128, 12 for
+/// another value that no reading gives, 7 where the output is short, then 0 with the data, zeros after them, and the
+/// octets written and 0. `before` gives the octets before the name at a prefix length, and `put` puts them there.
+#[inline(always)]
+pub fn write_as(
+    value: &[u8],
+    out: &mut [u8],
+    figures: &mut [u32],
+    before: impl Fn(u8) -> usize,
+    put: impl Fn(&[u8], &mut [u8]),
+) -> u32 {
     out.fill(0);
     figures.fill(0);
     if value.len() != VALUE || figures.len() != 2 {
@@ -76,14 +92,24 @@ pub fn write(value: &[u8], out: &mut [u8], figures: &mut [u32]) -> u32 {
     let slot = value[LENGTH..].first_chunk().expect("a slot");
     let name = if length > 0 { names::in_slot(slot) } else { names::is_blank(slot).then_some(&[][..]) };
     let Some(name) = name else { return 12 };
-    let suffix = suffix_of(length);
-    let size = 1 + suffix + name.len();
+    let before = before(length);
+    let size = before + name.len();
     if out.len() < size {
         return 7;
     }
-    out[0] = length;
-    out[1..1 + suffix].copy_from_slice(&value[LENGTH - suffix..LENGTH]);
-    out[1 + suffix..size].copy_from_slice(name);
+    put(value, &mut out[..before]);
+    out[before..size].copy_from_slice(name);
     figures[0] = size as u32;
     0
+}
+
+/// The answer of `a6plan_write`: before the name stand the prefix length and the suffix.
+#[inline(never)]
+pub fn write(value: &[u8], out: &mut [u8], figures: &mut [u32]) -> u32 {
+    let before = |length: u8| 1 + suffix_of(length);
+    write_as(value, out, figures, before, |value, out| {
+        let suffix = out.len() - 1;
+        out[0] = value[0];
+        out[1..].copy_from_slice(&value[LENGTH - suffix..LENGTH]);
+    })
 }

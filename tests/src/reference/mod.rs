@@ -3,6 +3,7 @@
 
 pub mod a6;
 pub mod collapse;
+pub mod draft;
 pub mod forward;
 pub mod names;
 pub mod plan;

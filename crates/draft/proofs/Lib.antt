@@ -1,0 +1,5 @@
+pub mod ReadLaws
+pub mod DataLaws
+pub mod RoundTrip
+pub mod Computing
+pub mod Examples
