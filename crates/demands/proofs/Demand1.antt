@@ -52,6 +52,10 @@ use Rattle.a6.specs.declared.Value.{Value}
 use Rattle.a6.specs.declared.Reading.{Reading}
 use Rattle.a6.proofs.read.Reads as read
 use Rattle.a6.proofs.write.Reads as write
+use Rattle.draft.specs.Read.{draftNumber, draftValue, draftReading}
+use Rattle.draft.specs.Write.{draftData, draftWriteNumber, draftAnswer, draftOut}
+use Rattle.draft.proofs.read.Reads as draft-read
+use Rattle.draft.proofs.write.Reads as draft-write
 use Rattle.plan.specs.Layout.{countOf}
 use Rattle.plan.specs.Check.{checkOf, checkAnswer, InOrder}
 use Rattle.plan.specs.Part.{IsPart, emptyPart, ownerPart}
@@ -71,6 +75,8 @@ use Rattle.a6plan.specs.Exports.{partAnswer, valueOctets, valueIn, exportedRead
 use Rattle.a6plan.proofs.a6plan_standard.Reads as a6plan-standard
 use Rattle.a6plan.proofs.a6plan_read.Reads as a6plan-read
 use Rattle.a6plan.proofs.a6plan_write.Reads as a6plan-write
+use Rattle.a6plan.proofs.a6plan_read_1998.Reads as a6plan-read-1998
+use Rattle.a6plan.proofs.a6plan_write_1998.Reads as a6plan-write-1998
 use Rattle.a6plan.proofs.a6plan_check.Reads as a6plan-check
 use Rattle.a6plan.proofs.a6plan_owner.Reads as a6plan-owner
 use Rattle.a6plan.proofs.a6plan_lookup.Reads as a6plan-lookup
@@ -150,6 +156,16 @@ pub a6-write : (κs : Lfts 1) (value : Value) (out end : RefT (List ℕ)) (r : A
     ((r ≡ writeAnswer value (length (now out))) × (now end ≡ writeOut value (length (now out))))
 a6-write κs value out end r = plainly
 
+-- ---- draft
+pub draft-draft-read : (κs : Lfts 1) (rdata : RefT (List ℕ)) (r : Reading)
+    → Promises (draft-read.Asked κs) (draft-read.Learnt κs) (rdata, tt) r (rdata, tt) (r ≡ draftReading (now rdata))
+draft-draft-read κs rdata r = plainly
+
+pub draft-draft-write : (κs : Lfts 1) (value : Value) (out end : RefT (List ℕ)) (r : Answer)
+    → Promises (draft-write.Asked κs) (draft-write.Learnt κs) (value, (out, tt)) r (value, (end, tt))
+    ((r ≡ draftAnswer value (length (now out))) × (now end ≡ draftOut value (length (now out))))
+draft-draft-write κs value out end r = plainly
+
 -- ---- plan
 pub plan-check : (κs : Lfts 1) (table : RefT (List ℕ)) (r : Answer) → Promises (check.Asked κs) (check.Learnt κs) (table, tt) r (table, tt) (r ≡ checkAnswer (now table))
 plan-check κs table r = plainly
@@ -176,7 +192,7 @@ pub collapse-collapse : (κs : Lfts 3) (table name out end : RefT (List ℕ)) (r
     ((r ≡ collapseAnswer (now table) (now name) (length (now out))) × (now end ≡ collapseOut (now table) (now name) (length (now out))))
 collapse-collapse κs table name out end r = plainly
 
--- ---- the eight exports: the number, the output and the figures
+-- ---- the ten exports: the number, the output and the figures
 pub export-standard : (κs : Lfts 3) (name out end figures figured : RefT (List ℕ)) (r : ℕ)
     → Promises (a6plan-standard.Asked κs) (a6plan-standard.Learnt κs) (name, (out, (figures, tt))) r (name, (end, (figured, tt)))
     ((r ≡ exportedNumber (length (now figures)) (standardNumber (now name) (length (now out))))
@@ -194,6 +210,18 @@ pub export-write : (κs : Lfts 3) (value out end figures figured : RefT (List �
     × ((now end ≡ outBy r (dataOf (valueIn (now value))) (length (now out)))
     × (now figured ≡ exportedFigures r (writeAnswer (valueIn (now value)) (length (now out))) (length (now figures)))))
 export-write κs value out end figures figured r = plainly
+
+pub export-read-1998 : (κs : Lfts 2) (rdata value end : RefT (List ℕ)) (r : ℕ)
+    → Promises (a6plan-read-1998.Asked κs) (a6plan-read-1998.Learnt κs) (rdata, (value, tt)) r (rdata, (end, tt))
+    ((r ≡ exportedReadNumber (length (now value)) (draftNumber (now rdata))) × (now end ≡ outBy r (valueOctets (draftValue (now rdata))) (length (now value))))
+export-read-1998 κs rdata value end r = plainly
+
+pub export-write-1998 : (κs : Lfts 3) (value out end figures figured : RefT (List ℕ)) (r : ℕ)
+    → Promises (a6plan-write-1998.Asked κs) (a6plan-write-1998.Learnt κs) (value, (out, (figures, tt))) r (value, (end, (figured, tt)))
+    ((r ≡ exportedWriteNumber (length (now value)) (length (now figures)) (draftWriteNumber (valueIn (now value)) (length (now out))))
+    × ((now end ≡ outBy r (draftData (valueIn (now value))) (length (now out)))
+    × (now figured ≡ exportedFigures r (draftAnswer (valueIn (now value)) (length (now out))) (length (now figures)))))
+export-write-1998 κs value out end figures figured r = plainly
 
 pub export-check : (κs : Lfts 1) (table : RefT (List ℕ)) (r : ℕ) → Promises (a6plan-check.Asked κs) (a6plan-check.Learnt κs) (table, tt) r (table, tt) (r ≡ checkOf (now table))
 export-check κs table r = plainly
@@ -256,7 +284,15 @@ pub read-clears : (octets : List ℕ) → (readOf octets .number ≡ 0 → ⊥)
 unfolding readingFor nameOf
 read-clears octets = reading-clears (readNumber octets) (valueOf octets)
 
+pub draft-read-clears : (octets : List ℕ) → (draftReading octets .number ≡ 0 → ⊥)
+    → draftReading octets .value ≡ record { prefix = 0; address = blank 16; name = record { octets = blank 255; length = 0 } }
+unfolding readingFor nameOf
+draft-read-clears octets = reading-clears (draftNumber octets) (draftValue octets)
+
 -- a refused writing has both figures 0 and its output zero
+pub draft-write-clears : (v : Value) (room : ℕ) → Cleared (draftAnswer v room) (draftOut v room) room
+draft-write-clears v room = by-number-clears _ _ _ _ room
+
 pub write-clears : (v : Value) (room : ℕ) → Cleared (writeAnswer v room) (writeOut v room) room
 write-clears v room = by-number-clears _ _ _ _ room
 
@@ -306,6 +342,17 @@ pub export-write-clears : (κs : Lfts 3) (value out end figures figured : RefT (
     → a6plan-write.Learnt κs (value, (out, (figures, tt))) r (value, (end, (figured, tt))) → (r ≡ 0 → ⊥)
     → (now end ≡ blank (length (now out))) × (now figured ≡ blank (length (now figures)))
 export-write-clears κs value out end figures figured r l h = (zeros r _ _ h (l .1 .0), zeros r _ _ h (l .1 .1))
+
+-- of `a6plan_read_1998`
+pub export-read-1998-clears : (κs : Lfts 2) (rdata value end : RefT (List ℕ)) (r : ℕ)
+    → a6plan-read-1998.Learnt κs (rdata, (value, tt)) r (rdata, (end, tt)) → (r ≡ 0 → ⊥) → now end ≡ blank (length (now value))
+export-read-1998-clears κs rdata value end r l h = zeros r _ _ h (l .1)
+
+-- of `a6plan_write_1998`
+pub export-write-1998-clears : (κs : Lfts 3) (value out end figures figured : RefT (List ℕ)) (r : ℕ)
+    → a6plan-write-1998.Learnt κs (value, (out, (figures, tt))) r (value, (end, (figured, tt))) → (r ≡ 0 → ⊥)
+    → (now end ≡ blank (length (now out))) × (now figured ≡ blank (length (now figures)))
+export-write-1998-clears κs value out end figures figured r l h = (zeros r _ _ h (l .1 .0), zeros r _ _ h (l .1 .1))
 
 -- of `a6plan_owner`
 pub export-owner-clears : (κs : Lfts 2) (table : RefT (List ℕ)) (index : ℕ) (figures figured : RefT (List ℕ)) (r : ℕ)

@@ -39,7 +39,8 @@ use Rattle.a6.specs.Write.{writeNumber, writeAnswer, writeOut}
 use Rattle.a6.specs.Standard.{standardData}
 use Rattle.a6.specs.declared.Value.{Value}
 use Rattle.a6.proofs.EndingLaws.{reading-number}
-use Rattle.a6.proofs.RoundTrip.{write-read, read-write}
+use Rattle.a6.proofs.Layouts.{write-read, read-write}
+use Rattle.a6.proofs.RoundTrip.{a6-layout}
 use Rattle.demands.specs.Demand2.{Ownable}
 use Rattle.demands.proofs.Owned.{later, slices-octets}
 
@@ -190,9 +191,9 @@ reverse-running κs table address out end limit r learnt o l e =
 pub write-back : (octets : List ℕ) (room : ℕ) → Small octets → readOf octets .number ≡ 0 → length (standardData octets) ≤ room
     → (writeAnswer (readOf octets .value) room ≡ answering (length (standardData octets)) 0)
     × (writeOut (readOf octets .value) room ≡ standardData octets ++ blank (room - length (standardData octets)))
-write-back octets room s e l = write-read octets room s (sym (reading-number (readNumber octets) (valueOf octets)) ∙ e) l
+write-back octets room s e l = write-read a6-layout octets room s (sym (reading-number (readNumber octets) (valueOf octets)) ∙ e) l
 
 -- what was written and is read back is the value; `Shaped` is what the type of a value gives
 pub read-back : (v : Value) (room : ℕ) → Shaped v → writeAnswer v room .number ≡ 0
     → readOf (take (writeAnswer v room .count) (writeOut v room)) ≡ record { number = 0; value = v }
-read-back v room s e = read-write v room s (sym (by-number (writeNumber v room) _ _) ∙ e)
+read-back v room s e = read-write a6-layout v room s (sym (by-number (writeNumber v room) _ _) ∙ e)

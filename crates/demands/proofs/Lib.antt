@@ -2,5 +2,6 @@ pub mod Demand1
 pub mod Owned
 pub mod Demand2
 pub mod Demand3
+pub mod T02
 pub mod Examples
 pub mod Filled
