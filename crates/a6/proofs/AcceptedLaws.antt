@@ -1,5 +1,5 @@
 -- Laws of the values that a writer takes, and of how it lays data down: the same for every layout.
-use Prim.Native.Nat.{ℕ, suc, _+_, _-_, _≤_, _<_}
+use Prim.Native.Nat.{ℕ, _+_, _-_, _≤_, _<_}
 use mathlib.Core.Path.{_≡_, refl, ap, _∙_, sym}
 use mathlib.Core.Bool.{true, false, not}
 use mathlib.Core.List.{List, [], _∷_, _++_, append-assoc}
@@ -11,7 +11,7 @@ use native.Mathlib.Nat.{zero-add}
 use borrow.Author.Tests.{lt-ltb, le-ltb, eq-eqb, ne-eqb, ltb-false, not-false}
 use Rattle.octets.specs.Octets.{blank}
 use Rattle.octets.specs.Zeros.{isBlank}
-use Rattle.octets.specs.Answers.{orElse}
+use Rattle.octets.specs.Answers.{orElse, answerBy, outBy}
 use Rattle.octets.proofs.OctetLaws.{length-blank, drop-blank}
 use Rattle.octets.proofs.SameLaws.{same-refl}
 use Rattle.octets.proofs.AnswerLaws.{earns-zero, else-zero, else-later}
@@ -20,7 +20,7 @@ use Rattle.names.specs.Standard.{inStandardForm}
 use Rattle.address.specs.Address.{clearTo}
 use Rattle.a6.specs.Data.{octetsOf}
 use Rattle.a6.specs.Accepted.{nameFits, zeroFilled, valueNumber, roomNumber}
-use Rattle.a6.specs.Parts.{over, laid}
+use Rattle.a6.specs.Parts.{over, laid, laidOf, laidNumber}
 use Rattle.a6.specs.declared.Value.{Value}
 
 -- what a writer asks of a value, the room aside
@@ -150,3 +150,14 @@ module _ (x : ℕ) (address : List ℕ) (before after : ℕ) (name : List ℕ) (
 
 pub over-blank : (out xs : List ℕ) (room : ℕ) → out ≡ blank room → over out xs ≡ xs ++ blank (room - length xs)
 over-blank out xs room z = rw (z, drop-blank (length xs) room)
+
+-- what `lay` answers and writes, where the data that it lays is the data of some layout
+module _ (v : Value) (before : ℕ) (octets : List ℕ) (d : laidOf v before ≡ octets) (room : ℕ) where
+  pub laid-number : laidNumber v before room ≡ orElse (valueNumber v) (roomNumber octets room)
+  laid-number = ap (λ (xs : List ℕ). orElse (valueNumber v) (roomNumber xs room)) d
+
+  pub laid-answer : answerBy (laidNumber v before room) (length (laidOf v before)) 0 ≡ answerBy (orElse (valueNumber v) (roomNumber octets room)) (length octets) 0
+  laid-answer = ap (λ (xs : List ℕ). answerBy (orElse (valueNumber v) (roomNumber xs room)) (length xs) 0) d
+
+  pub laid-out : outBy (laidNumber v before room) (laidOf v before) room ≡ outBy (orElse (valueNumber v) (roomNumber octets room)) octets room
+  laid-out = ap (λ (xs : List ℕ). outBy (orElse (valueNumber v) (roomNumber xs room)) xs room) d

@@ -1,7 +1,7 @@
 -- Laws of how data ends, and of the value that its parts make: the same for every layout.
 use Prim.Native.Nat.{ℕ, zero, suc, _+_, _-_, _≤_, _<_}
 use mathlib.Core.Path.{_≡_, refl, ap, _∙_, sym}
-use mathlib.Core.Bool.{Bool, true}
+use mathlib.Core.Bool.{true}
 use mathlib.Core.List.{List, []}
 use lib.Dec.{ltb}
 use lib.ListN.{length, take, drop, length-drop}
@@ -9,7 +9,6 @@ use lib.Seq.{take-all}
 use native.Mathlib.Omega.{arith}
 use borrow.Author.Tests.{lt-ltb, le-ltb, eq-eqb, ne-eqb, ltb-false}
 use Rattle.octets.specs.Octets.{blank, Small}
-use Rattle.octets.specs.Answers.{earns, orElse}
 use Rattle.octets.proofs.AnswerLaws.{earns-zero, else-zero, else-kept, else-later}
 use Rattle.labels.specs.Scan.{scanOf, wellFormed}
 use Rattle.labels.specs.Answers.{scanned, found}

@@ -9,6 +9,7 @@ use Rattle.a6.specs.Data.{suffixOctets}
 use Rattle.a6.specs.Read.{readNumber, readOf}
 use Rattle.a6.specs.Write.{writeNumber, writeOut}
 use Rattle.a6.specs.Standard.{standardData}
+use Rattle.a6.proofs.Samples.{ones, p}
 use Rattle.a6.proofs.Computing.{data-compute}
 use Rattle.a6.specs.declared.Value.{Value}
 use Rattle.a6.specs.declared.Reading.{Reading}
@@ -16,14 +17,6 @@ use Rattle.a6.specs.declared.Reading.{Reading}
 -- 01, Examples to check: the suffix octets of 0, 7, 8, 121 and 128
 suffixes : map suffixOctets (0 ∷ 7 ∷ 8 ∷ 121 ∷ 128 ∷ []) ≡ 16 ∷ 16 ∷ 15 ∷ 1 ∷ 0 ∷ []
 suffixes = refl
-
--- n octets 255, and the name "p."
-ones : ℕ → List ℕ
-unfolding blank
-ones n = map (λ x. x + 255) (blank n)
-
-p : List ℕ
-p = 1 ∷ 112 ∷ 0 ∷ []
 
 -- data with every bit of the suffix set, the padding too: what is read of it, and what is written again
 record Case : Type 0 where

@@ -7,5 +7,6 @@ pub mod RoundLaws
 pub mod DataLaws
 pub mod Layouts
 pub mod RoundTrip
+pub mod Samples
 pub mod Examples
 pub mod Computing

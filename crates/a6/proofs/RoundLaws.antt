@@ -1,5 +1,5 @@
 -- What is read can be written, and what can be written is read again: the parts that every layout shares.
-use Prim.Native.Nat.{ℕ, _+_, _-_, _≤_}
+use Prim.Native.Nat.{ℕ, _-_, _≤_}
 use mathlib.Core.Path.{_≡_, refl, ap, _∙_, sym}
 use mathlib.Core.Bool.{Bool, true, false}
 use mathlib.Core.List.{List, []}
@@ -12,21 +12,18 @@ use Rattle.octets.specs.Octets.{blank, Small}
 use Rattle.octets.proofs.OctetLaws.{length-blank, small-take, nil-of-length}
 use Rattle.octets.proofs.SmallLaws.{small-append, small-blank}
 use Rattle.octets.proofs.ZeroLaws.{blank-eq}
-use Rattle.labels.specs.Scan.{scanOf}
-use Rattle.labels.specs.Answers.{scanned}
 use Rattle.labels.specs.declared.Scanned.{Scanned}
-use Rattle.names.specs.Standard.{standardOf}
 use Rattle.names.specs.Name.{nameOf, heldOf}
 use Rattle.names.specs.declared.Name.{Name}
 use Rattle.names.proofs.FrontLaws.{formed-scan}
 use Rattle.names.proofs.NameLaws.{held-formed, held-standard, standard-short}
 use Rattle.names.proofs.StandardSmall.{standard-small}
 use Rattle.names.proofs.StandardLaws.{in-standard}
-use Rattle.address.specs.Address.{joinOf, clearTo}
+use Rattle.address.specs.Address.{joinOf}
 use Rattle.address.proofs.AddressLaws.{join-length, join-small}
 use Rattle.address.proofs.ClearLaws.{clear-join, clear-blank}
 use Rattle.a6.specs.Data.{octetsOf, Shaped}
-use Rattle.a6.specs.Ending.{nameFound, nameNumber, nameOctets, nameIn, valueFrom}
+use Rattle.a6.specs.Ending.{nameFound, nameNumber, nameIn, valueFrom}
 use Rattle.a6.specs.Accepted.{nameFits, zeroFilled}
 use Rattle.a6.specs.Standard.{standardName}
 use Rattle.a6.specs.declared.Value.{Value}

@@ -10,14 +10,16 @@ use native.Mathlib.Omega.{arith}
 use borrow.Author.Tests.{eq-eqb, ne-eqb, lt-ltb, le-ltb, eqb-true, eqb-false, ltb-true, ltb-false}
 use Rattle.octets.specs.Octets.{blank}
 use Rattle.octets.specs.declared.Answer.{Answer}
-use Rattle.octets.specs.Answers.{answerBy, outBy}
+use Rattle.octets.specs.Answers.{orElse, answerBy, outBy}
 use Rattle.octets.proofs.AnswerLaws.{earns-zero, not-nought, refused-out, by-number}
 use Rattle.octets.proofs.OctetLaws.{length-blank}
 use Rattle.octets.proofs.BoolLaws.{clash}
 use Rattle.a6.specs.declared.Value.{Value}
-use Rattle.a6.specs.Parts.{valueAt}
+use Rattle.a6.specs.Accepted.{valueNumber, roomNumber}
+use Rattle.a6.specs.Parts.{valueAt, laidOf, laidNumber}
 use Rattle.a6.specs.declared.inside.Found.{Found}
 use Rattle.a6.proofs.EndingLaws.{Tells}
+use Rattle.a6.proofs.AcceptedLaws.{laid-number, laid-answer}
 use Rattle.a6plan.specs.Exports.{valueSize, valueOctets, misfit, exportedReadNumber, exportedWriteNumber, valueIn, exportedNumber, exportedFigures}
 use Rattle.a6plan.specs.Keeping.{clearedIf, keptFor}
 
@@ -228,3 +230,13 @@ module _ (xs : List ℕ) where
   pub address-short : length (valueIn xs .address) ≤ 16
   unfolding valueIn
   address-short = omega (arith, length-take 16 (drop 1 xs))
+
+-- a writing whose data is the data of some layout
+pub written-as : (m n : ℕ) (v : Value) (before : ℕ) (octets : List ℕ) (size : ℕ) {r : ℕ} {out figures : List ℕ} → laidOf v before ≡ octets
+    → (r ≡ exportedWriteNumber m n (laidNumber v before size)) × ((out ≡ outBy r (laidOf v before) size) × (figures ≡ exportedFigures r (answerBy (laidNumber v before size) (length (laidOf v before)) 0) n))
+    → (r ≡ exportedWriteNumber m n (orElse (valueNumber v) (roomNumber octets size)))
+    × ((out ≡ outBy r octets size) × (figures ≡ exportedFigures r (answerBy (orElse (valueNumber v) (roomNumber octets size)) (length octets) 0) n))
+written-as m n v before octets size {r} d p = (
+  p .0 ∙ ap (exportedWriteNumber m n) (laid-number v before octets d size),
+  (p .1 .0 ∙ ap (λ (xs : List ℕ). outBy r xs size) d, p .1 .1 ∙ ap (λ (a : Answer). exportedFigures r a n) (laid-answer v before octets d size)),
+)

@@ -1,5 +1,5 @@
 -- What is read of data can be written, and data that was written is read again.
-use Prim.Native.Nat.{ℕ, _+_, _-_, _/_, _%_, _≤_, max}
+use Prim.Native.Nat.{ℕ, _+_, _-_, _/_, _≤_, max}
 use mathlib.Core.Path.{_≡_, ap, _∙_, sym}
 use mathlib.Core.List.{List, _∷_, _++_}
 use lib.ListN.{length, drop, length-append, length-drop, drop-of-length-le}

@@ -1,5 +1,5 @@
 -- Data of the 1998 layout read and written, by computation.
-use Prim.Native.Nat.{ℕ, _+_, _-_}
+use Prim.Native.Nat.{ℕ, _-_}
 use mathlib.Core.Path.{_≡_, refl}
 use mathlib.Core.List.{List, [], _∷_, _++_, map}
 use lib.ListN.{length}
@@ -10,15 +10,8 @@ use Rattle.a6.specs.declared.Reading.{Reading}
 use Rattle.draft.specs.Read.{draftNumber, draftReading}
 use Rattle.draft.specs.Write.{draftWriteNumber, draftOut}
 use Rattle.draft.specs.Standard.{draftStandard}
+use Rattle.a6.proofs.Samples.{ones, p}
 use Rattle.draft.proofs.Computing.{draft-compute}
-
--- n octets 255, and the name "p."
-ones : ℕ → List ℕ
-unfolding blank
-ones n = map (λ x. x + 255) (blank n)
-
-p : List ℕ
-p = 1 ∷ 112 ∷ 0 ∷ []
 
 -- data with every bit of the address set: the address that is read of it, and the name
 record Case : Type 0 where

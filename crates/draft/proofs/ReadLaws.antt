@@ -1,5 +1,5 @@
 -- Laws of the reader: one for each test, and what holds where all are passed.
-use Prim.Native.Nat.{ℕ, _+_, _-_, _≤_, _<_}
+use Prim.Native.Nat.{ℕ, _-_, _≤_, _<_}
 use mathlib.Core.Path.{_≡_, ap, _∙_, sym}
 use mathlib.Core.List.{List, _++_}
 use lib.Dec.{ltb}
@@ -14,7 +14,6 @@ use Rattle.address.specs.Address.{joinOf}
 use Rattle.a6.specs.Data.{suffixOctets}
 use Rattle.a6.specs.Ending.{nameNumber, nameIn, valueFrom}
 use Rattle.a6.specs.Parts.{lastAt}
-use Rattle.a6.specs.declared.Value.{Value}
 use Rattle.a6.proofs.SuffixLaws.{join-own}
 use Rattle.draft.specs.Layout.{addressPart, prefixPart, restPart}
 use Rattle.draft.specs.Read.{draftNumber, draftValue}

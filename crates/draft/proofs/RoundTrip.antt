@@ -1,5 +1,4 @@
 -- The 1998 layout as a layout of the same values: what holds in every layout holds of it (T-02).
-use mathlib.Core.List.{List}
 use Rattle.a6.proofs.Layouts.{Layout}
 use Rattle.draft.specs.Read.{draftNumber, draftValue}
 use Rattle.draft.specs.Write.{draftData}

@@ -1,7 +1,7 @@
 -- `a6plan::put_value` meets its contract: the parts of the value, put into zeros.
 use Prim.Native.Nat.{ℕ, _-_}
 use mathlib.Core.Path.{_≡_, refl, ap, _∙_, sym}
-use mathlib.Core.List.{List, _∷_, _++_}
+use mathlib.Core.List.{List}
 use lib.ListN.{length, take, drop, length-set}
 use native.Mathlib.Omega.{arith}
 use borrow.Author.Needs.{needs}
@@ -11,7 +11,6 @@ use Rattle.octets.proofs.AnswerLaws.{refused-out}
 use Rattle.names.specs.declared.Name.{Name}
 use Rattle.a6.specs.Ending.{nameFound, nameNumber, nameIn}
 use Rattle.a6.specs.Parts.{valueAt, Sound}
-use Rattle.a6.specs.declared.Value.{Value}
 use Rattle.a6.proofs.EndingLaws.{part-rest, parts-value}
 use Rattle.a6plan.specs.Exports.{valueSize, valueOctets}
 use Rattle.a6plan.proofs.ExportLaws.{full-out, addressed, named, address-blank, address-long, name-blank, value-long, value-put}

@@ -1,10 +1,9 @@
--- `draft::write` meets its contract: the whole address before the prefix length, and none of it behind.
+-- `draft::write` meets its contract: the whole address before the prefix length.
 use mathlib.Core.Path.{_≡_, _∙_}
 use lib.ListN.{length}
 use native.Mathlib.Omega.{arith}
 use borrow.Author.Needs.{needs}
-use Rattle.octets.specs.Answers.{orElse, answerBy, outBy}
-use Rattle.a6.specs.Accepted.{valueNumber, roomNumber}
+use Rattle.a6.proofs.AcceptedLaws.{laid-answer, laid-out}
 use Rattle.draft.proofs.DataLaws.{data-laid}
 use Rattle.draft.proofs.write.Statement.{statement}
 use Rattle.draft.proofs.write.Tie as tie
@@ -24,11 +23,10 @@ same-length c = search needs
 returns : tie.Need-returns
 returns c =
     let v = c .before .before .before .before .before .before .before .before .before .before .args .value in
-    let room = length (c .before .before .before .before .before .before .before .before .before .before .args .out .now) in
     let long : length (v .address) ≡ 16 = search needs in
     let d = data-laid v (omega (arith, long)) in
     let r = c .before .before .lay .ensures in
-    (r .0 ∙ (λ i. answerBy (orElse (valueNumber v) (roomNumber (d i) room)) (length (d i)) 0), r .1 ∙ (λ i. outBy (orElse (valueNumber v) (roomNumber (d i) room)) (d i) room))
+    (r .0 ∙ laid-answer v 16 _ d _, r .1 ∙ laid-out v 16 _ d _)
 
 pub write-spec : {M : Type 1} → statement M
 write-spec = tie.close (tie.spec slice-aggregate-lay slice-aggregate-lay-2 lay-requires same-length returns)

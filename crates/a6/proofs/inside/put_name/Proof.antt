@@ -1,7 +1,5 @@
 -- `a6::inside::put_name` meets its contract: what is left of the data is the name.
-use Prim.Native.Nat.{ℕ}
-use mathlib.Core.Path.{_≡_, ap, _∙_, sym}
-use mathlib.Core.List.{List}
+use mathlib.Core.Path.{ap, _∙_, sym}
 use native.Mathlib.Omega.{arith}
 use borrow.Author.Needs.{needs}
 use Rattle.octets.specs.Octets.{Small}

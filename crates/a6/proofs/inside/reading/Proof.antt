@@ -10,7 +10,6 @@ use Rattle.names.specs.declared.Name.{Name}
 use Rattle.a6.specs.Ending.{nameFound, nameNumber, nameIn}
 use Rattle.a6.specs.Parts.{Sound}
 use Rattle.a6.specs.declared.Value.{Value}
-use Rattle.a6.specs.declared.Reading.{Reading}
 use Rattle.a6.proofs.EndingLaws.{part-rest, parts-value, reading-refused, reading-done}
 use Rattle.a6.proofs.inside.reading.Statement.{statement}
 use Rattle.a6.proofs.inside.reading.Tie as tie
