@@ -16,9 +16,9 @@
 #include <stdint.h>
 
 /* The version of this interface (CHANGELOG.md), as text and by its parts. */
-#define A6PLAN_VERSION "0.2.0"
+#define A6PLAN_VERSION "0.3.0"
 #define A6PLAN_VERSION_MAJOR 0
-#define A6PLAN_VERSION_MINOR 2
+#define A6PLAN_VERSION_MINOR 3
 #define A6PLAN_VERSION_PATCH 0
 
 /* How many elements an array has, which is the length of its slice; sizeof counts octets. Of an array, not of a pointer. */
@@ -52,6 +52,24 @@ uint32_t a6plan_read(const uint8_t *data, size_t data_length,
 uint32_t a6plan_write(const uint8_t *value, size_t value_length,
                       uint8_t *out, size_t out_length,
                       uint32_t *figures, size_t figures_length);
+
+/*
+ * The value that data of the 1998 layout stands for, in the same 273 octets: the data is sixteen address octets, the prefix
+ * length, and the prefix name where the prefix length is not 0. Bits before the prefix's end are cleared.
+ * 11: fewer than seventeen octets, or the name ends too soon. 10: prefix length over 128. 12: the name is malformed.
+ * 13: octets are left over. 5, before everything else: the value slice is not of 273 octets.
+ */
+uint32_t a6plan_read_1998(const uint8_t *data, size_t data_length,
+                          uint8_t *value, size_t value_length);
+
+/*
+ * The data of a value of 273 octets in the 1998 layout, then zeros. figures: the octets written, and 0.
+ * 10: prefix length over 128. 12: not a value that reading can give. 7: the output is too short.
+ * 5, before everything else: the value slice is not of 273 octets, or the figures are not two.
+ */
+uint32_t a6plan_write_1998(const uint8_t *value, size_t value_length,
+                           uint8_t *out, size_t out_length,
+                           uint32_t *figures, size_t figures_length);
 
 /* Whether a table is in order: 0; 1: its length; 2: some record; 3: two DNAMEs with one owner. */
 uint32_t a6plan_check(const uint8_t *table, size_t table_length);

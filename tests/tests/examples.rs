@@ -43,9 +43,15 @@ fn compiled(example: &str) -> PathBuf {
 /// What both lookups print: the address and its TTL.
 const LOOKUP: &str = "2001:db8:0:5::7 300\n";
 
-/// What a lookup that README builds makes of a plan of these records: its exit status, and what it prints and says.
+/// Where the input of a program that README builds is written.
+fn input_of(program: &str) -> PathBuf {
+    Path::new(env!("CARGO_TARGET_TMPDIR")).join(program.replace('/', "-"))
+}
+
+/// What a program that README builds makes of this input, for a lookup a slot and records: its exit status, and what it
+/// prints and says.
 fn looked_up(program: &str, slot: &[u8], records: &[u8]) -> (Option<i32>, String, String) {
-    let file = Path::new(env!("CARGO_TARGET_TMPDIR")).join(program.replace('/', "-"));
+    let file = input_of(program);
     fs::write(&file, [slot, records].concat()).expect("the input is written");
     let input = fs::File::open(&file).expect("the input");
     let output = Command::new(repository().join(program)).stdin(input).output().expect("the program runs");
@@ -74,12 +80,11 @@ fn assert_whole(program: &str) {
     assert_eq!(looked_up(program, slot, &long), refused(2, words));
 }
 
-/// Input that cannot be read and output that cannot be written are told apart from refusals.
-fn assert_fails_plainly(program: &str) {
-    let open = |path| fs::OpenOptions::new().read(true).open(path).expect("it is opened");
+/// Input that cannot be read, and output that cannot be written for this input, are told apart from refusals.
+fn assert_fails_plainly(program: &str, sample: &Path) {
+    let open = |path: &Path| fs::OpenOptions::new().read(true).open(path).expect("it is opened");
     let full = || fs::OpenOptions::new().write(true).open("/dev/full").expect("it is opened");
-    let sample = repository().join("crates/lookup/stdin");
-    let read = Command::new(repository().join(program)).stdin(open(repository())).output().expect("the program runs");
+    let read = Command::new(repository().join(program)).stdin(open(&repository())).output().expect("the program runs");
     let write = Command::new(repository().join(program)).stdin(open(sample)).stdout(full()).output();
     for output in [read, write.expect("the program runs")] {
         assert_eq!(output.status.code(), Some(101));
@@ -93,7 +98,7 @@ fn a_lookup_from_c() {
     compiled("lookup");
     assert_eq!(printed_as_readme_says("target/lookup-c"), LOOKUP);
     assert_whole("target/lookup-c");
-    assert_fails_plainly("target/lookup-c");
+    assert_fails_plainly("target/lookup-c", &repository().join("crates/lookup/stdin"));
 }
 
 #[test]
@@ -101,13 +106,32 @@ fn a_lookup_from_rust() {
     assert_shown("rust", "examples/lookup.rs");
     assert_eq!(printed_as_readme_says("target/lookup-rs"), LOOKUP);
     assert_whole("target/lookup-rs");
-    assert_fails_plainly("target/lookup-rs");
+    assert_fails_plainly("target/lookup-rs", &repository().join("crates/lookup/stdin"));
 }
 
 #[test]
 fn the_standard_form_from_c() {
     let form = "41803ffe07c0004000090a0020fffe812b3203495036044152504100\n";
     assert_eq!(printed(&mut Command::new(compiled("standard"))), form);
+}
+
+/// The conversion that README builds gives what it says, refuses in words, and tells failures apart from refusals.
+#[test]
+fn the_1998_layout_from_c() {
+    compiled("convert");
+    assert_eq!(printed_as_readme_says("target/convert-c"), " 40 00 00 00 00 00 00 00 07 01 70 01 61 00\n");
+    let converted = |data: &[u8]| looked_up("target/convert-c", data, &[]);
+    let refused = |number, words: &str| (Some(number), String::new(), format!("refused {number}: {words}\n"));
+    let with = |rest: &[u8]| [&[0xff; 16], rest].concat();
+    assert_eq!(converted(&with(&[])), refused(11, "the data ends too soon"));
+    assert_eq!(converted(&with(&[200])), refused(10, "the prefix length is over 128"));
+    assert_eq!(converted(&with(&[64, 0xc0, 12])), refused(12, "the prefix name is malformed"));
+    assert_eq!(converted(&with(&[0, 0])), refused(13, "octets are left over"));
+    // A name that goes on and on is malformed, however much of it there is.
+    assert_eq!(converted(&with(&[&[64], &[63; 6_400][..]].concat())), refused(12, "the prefix name is malformed"));
+    assert_eq!(converted(&with(&[&[64, 0], &[0; 6_400][..]].concat())), refused(13, "octets are left over"));
+    assert_eq!(converted(&with(&[121, 0])), (Some(0), "y\x7f\0".into(), String::new()));
+    assert_fails_plainly("target/convert-c", &input_of("target/convert-c"));
 }
 
 /// What README says of the program `lookup` is what the gate holds it to.
