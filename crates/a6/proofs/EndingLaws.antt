@@ -21,7 +21,7 @@ use Rattle.names.proofs.NameLaws.{held-formed, held-empty}
 use Rattle.address.specs.Address.{joinOf}
 use Rattle.a6.specs.Data.{suffixOctets, blankValue}
 use Rattle.a6.specs.Ending.{nameFound, nameNumber, nameOctets, nameIn, valueFrom, readingFor}
-use Rattle.a6.specs.Parts.{byParts, lastAt, valueAt, foundAt, Sound}
+use Rattle.a6.specs.Parts.{byParts, lastAt, valueAt, foundAt, Sound, Tells}
 use Rattle.a6.specs.declared.Value.{Value}
 use Rattle.a6.specs.declared.Reading.{Reading}
 use Rattle.a6.specs.declared.inside.Found.{Found}
@@ -124,10 +124,7 @@ module _ (octets : List ℕ) (l suffix rest : ℕ) (f : Found) (low : l ≤ 128)
 pub refusing : {P : Type 0} (n number k : ℕ) → n ≡ suc k → number ≡ suc k → (n ≡ number) × (number ≡ 0 → P)
 refusing n number k p e = (p ∙ sym e, λ z. let w : ⊥ = omega (arith, e) in absurd w)
 
--- what the tests of a layout say of data: its number there, and on 0 where the parts are of the value that it stands for there
-abbrev pub Tells : List ℕ → Found → ℕ → Value → Type 0
-Tells octets f number v = (f .number ≡ number) × (number ≡ 0 → Sound octets f × (valueAt octets f ≡ v))
-
+-- what the tests of a layout say
 module _ (octets : List ℕ) (f : Found) (number : ℕ) (v : Value) (t : Tells octets f number v) where
   pub told-sound : f .number ≡ 0 → Sound octets f
   told-sound z = t .1 (sym (t .0) ∙ z) .0

@@ -40,6 +40,10 @@ pub record Sound (octets : List ℕ) (f : Found) : Type 0 where
   pub named : nameNumber (f .prefix) (drop (f .rest) octets) ≡ 0
   pub told : f .standard ≡ nameFound (f .prefix) (drop (f .rest) octets) .standard
 
+-- what the tests of a layout say of data: its number there, and on 0 where the parts are of the value that it stands for there
+abbrev pub Tells : List ℕ → Found → ℕ → Value → Type 0
+Tells octets f number v = (f .number ≡ number) × (number ≡ 0 → Sound octets f × (valueAt octets f ≡ v))
+
 -- data in the order in which it is written: so many octets of the address before the prefix length, the prefix length, those from some place on
 -- after it, the name
 abbrev pub laid : ℕ → List ℕ → ℕ → ℕ → List ℕ → List ℕ

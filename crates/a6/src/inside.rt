@@ -1,23 +1,23 @@
 // What only our own layers call: the reader and the writer in parts, which each layout of the same values puts together; outputs are lent.
 ghost use mathlib.Core.Path.{_≡_};
+ghost use mathlib.Core.List.{[]};
 ghost use Prim.Native.Nat.{_+_, _-_, _%_, _^_, _≤_, _<_, max};
 ghost use lib.ListN.{length, drop};
 ghost use Rattle.octets.specs.Octets.{blank};
 ghost use Rattle.octets.specs.Answers.{answerBy, outBy};
+ghost use Rattle.names.specs.Name.{nameOf};
 ghost use Rattle.address.specs.Address.{joinOf};
 ghost use Rattle.a6.specs.Data.{longest, suffixOctets, blankValue};
 ghost use Rattle.a6.specs.Ending.{nameFound, nameNumber, nameIn, readingFor};
 ghost use Rattle.a6.specs.Read.{readNumber, valueOf};
 ghost use Rattle.a6.specs.Accepted.{nameFits, valueNumber, roomNumber};
-ghost use Rattle.a6.specs.Parts.{byParts, lastAt, valueAt, foundAt, Sound, laid, laidOf, laidNumber};
-ghost use Rattle.names.specs.Name.{nameOf};
-ghost use mathlib.Core.List.{[]};
+ghost use Rattle.a6.specs.Parts.{byParts, lastAt, valueAt, foundAt, Sound, Tells, laid, laidOf, laidNumber};
 
 // The longest prefix (01, A6 data).
 pub const LONGEST: u8 = 128;
 
-// What a reader's tests say: the number, and on 0 the prefix length, where the octets of the address after it begin, where the name begins, and whether
-// the name is in standard form already.
+// What a reader's tests say: the number, and on 0 the prefix length, where the octets of the address begin that it does not fill, where the name begins,
+// and whether the name is in standard form already.
 pub struct Found {
     pub number: u8,
     pub prefix: u8,
@@ -28,7 +28,7 @@ pub struct Found {
 
 // The reader's tests in 01's order (What comes back).
 pub fn check(rdata: &[u8]) -> Found
-    ensures { λ r. ⌜ (r .number ≡ readNumber (now (rdata .entry))) × (readNumber (now (rdata .entry)) ≡ 0 → Sound (now (rdata .entry)) r × (valueAt (now (rdata .entry)) r ≡ valueOf (now (rdata .entry)))) ⌝ }
+    ensures { λ r. ⌜ Tells (now (rdata .entry)) r (readNumber (now (rdata .entry))) (valueOf (now (rdata .entry))) ⌝ }
 {
     let n = rdata.len();
     if n == 0 {
@@ -225,7 +225,7 @@ fn put_data(
 }
 
 // The octets of suffix that a prefix length leaves.
-pub fn suffix_octets(prefix: u8) -> usize
+fn suffix_octets(prefix: u8) -> usize
     requires { ⌜ prefix ≤ longest ⌝ }
     ensures { λ r. ⌜ (r ≡ suffixOctets prefix) × (r ≤ 16) ⌝ }
 {

@@ -16,9 +16,8 @@ use Rattle.octets.proofs.OctetLaws.{length-blank}
 use Rattle.octets.proofs.BoolLaws.{clash}
 use Rattle.a6.specs.declared.Value.{Value}
 use Rattle.a6.specs.Accepted.{valueNumber, roomNumber}
-use Rattle.a6.specs.Parts.{valueAt, laidOf, laidNumber}
+use Rattle.a6.specs.Parts.{valueAt, Tells, laidOf, laidNumber}
 use Rattle.a6.specs.declared.inside.Found.{Found}
-use Rattle.a6.proofs.EndingLaws.{Tells}
 use Rattle.a6.proofs.AcceptedLaws.{laid-number, laid-answer}
 use Rattle.a6plan.specs.Exports.{valueSize, valueOctets, misfit, exportedReadNumber, exportedWriteNumber, valueIn, exportedNumber, exportedFigures}
 use Rattle.a6plan.specs.Keeping.{clearedIf, keptFor}

@@ -1,6 +1,6 @@
 -- `draft::inside::check` meets its contract: each test is one law of the reader.
 use Prim.Native.Nat.{ℕ, _+_, _-_, _≤_}
-use mathlib.Core.Path.{_≡_, ap, sym, _∙_}
+use mathlib.Core.Path.{_≡_, sym, _∙_}
 use mathlib.Core.List.{List}
 use lib.ListN.{length, drop}
 use native.Mathlib.Omega.{arith}
@@ -40,11 +40,8 @@ missed-requires-2 c κs = search needs
 returns-2 : tie.Need-returns-2
 returns-2 c = refusing _ _ 9 (c .missed2 .ensures) (read-prefix (c .before .before .before .before .before .args .rdata .now) (omega arith) (omega arith))
 
-suffix-octets-requires : tie.Need-suffix-octets-requires
-suffix-octets-requires c κs = search needs
-
-sub-whole : tie.Need-sub-whole
-sub-whole c = search needs
+wide-requires : tie.Need-wide-requires
+wide-requires c κs = search needs
 
 ending-requires : tie.Need-ending-requires
 ending-requires c κs = search needs
@@ -55,13 +52,14 @@ returns-3 c =
     let d = rdata k in
     let l = prefixPart d in
     let f = fronted k in
-    let n = c .before .suffix-octets .ensures .0 in
+    let whole = c .before .wide .result in
+    let n : whole ≡ 16 - suffixOctets l = omega (arith, c .before .wide .ensures, f .low) in
     let r = c .ending .ensures in (
       r .0 ∙ number k,
       λ z.
           let z = number k ∙ z in
-          let i : 16 - c .before .suffix-octets .result + suffixOctets l ≤ length d = omega (arith, f .long, n) in
-          (found-sound d l _ 17 _ (f .low) i (f .long) z (r .1 z), found-value d l _ 17 _ (f .low) i (f .long) z (r .1 z) ∙ value-at d f _ (ap (λ (m : ℕ). 16 - m) n)),
+          let i : whole + suffixOctets l ≤ length d = omega (arith, f .long, n) in
+          (found-sound d l whole 17 _ (f .low) i (f .long) z (r .1 z), found-value d l whole 17 _ (f .low) i (f .long) z (r .1 z) ∙ value-at d f whole n),
     )
 
 pub check-spec : {M : Type 1} → statement M
@@ -73,7 +71,6 @@ check-spec =
     shared-slice-read-prefix
     missed-requires-2
     returns-2
-    suffix-octets-requires
-    sub-whole
+    wide-requires
     ending-requires
     returns-3)
