@@ -24,6 +24,15 @@
 /* How many elements an array has, which is the length of its slice; sizeof counts octets. Of an array, not of a pointer. */
 #define A6PLAN_COUNT(array) (sizeof (array) / sizeof (array)[0])
 
+/*
+ * Data is what a record holds, its RDATA, alone: no owner, type, class, TTL or length before it, no compressed name in it.
+ * A value is what data stands for, in 273 octets: the prefix length L; sixteen address octets whose first L bits are zero;
+ * the length of the prefix name; 255 octets with the name in wire form, in standard form, and zeros after it. At L = 0
+ * there is no name: length 0 and zeros. The root is a name of length 1. No value takes more than 272 octets as data.
+ */
+#define A6PLAN_VALUE 273
+#define A6PLAN_DATA 272
+
 #ifdef __cplusplus
 extern "C" {
 #endif
@@ -37,16 +46,16 @@ uint32_t a6plan_standard(const uint8_t *name, size_t name_length,
                          uint32_t *figures, size_t figures_length);
 
 /*
- * The value that A6 data stands for, in 273 octets: prefix length, sixteen address octets, name length, 255 name octets.
- * 10: prefix length over 128. 11: the data ends too soon. 12: the name is malformed. 13: octets are left over.
- * 5, before everything else: the value slice is not of 273 octets.
+ * The value that A6 data stands for: the data is the prefix length, the octets of the address that it does not fill, and the
+ * prefix name where it is not 0. From left to right: 11: the data ends too soon. 10: prefix length over 128. 12: the name is
+ * malformed. 13, last: octets are left over. 5, before everything else: the value slice is not of 273 octets.
  */
 uint32_t a6plan_read(const uint8_t *data, size_t data_length,
                      uint8_t *value, size_t value_length);
 
 /*
  * The A6 data of a value of 273 octets, then zeros. figures: the octets written, and 0.
- * 10: prefix length over 128. 12: not a value that reading can give. 7: the output is too short.
+ * In this order, 10: prefix length over 128. 12: not a value that reading can give. 7: the output is too short.
  * 5, before everything else: the value slice is not of 273 octets, or the figures are not two.
  */
 uint32_t a6plan_write(const uint8_t *value, size_t value_length,
@@ -54,17 +63,17 @@ uint32_t a6plan_write(const uint8_t *value, size_t value_length,
                       uint32_t *figures, size_t figures_length);
 
 /*
- * The value that data of the 1998 layout stands for, in the same 273 octets: the data is sixteen address octets, the prefix
- * length, and the prefix name where the prefix length is not 0. Bits before the prefix's end are cleared.
- * 11: fewer than seventeen octets, or the name ends too soon. 10: prefix length over 128. 12: the name is malformed.
- * 13: octets are left over. 5, before everything else: the value slice is not of 273 octets.
+ * The value that data of the 1998 layout stands for: the data is sixteen address octets, the prefix length L, and the prefix
+ * name where L is not 0. The first L bits of the address are cleared. From left to right: 11: fewer than seventeen octets.
+ * 10: L over 128. 11 or 12: the name ends too soon or is malformed. 13, last: octets are left over, at L = 0 any after the
+ * seventeenth. 5, before everything else: the value slice is not of 273 octets.
  */
 uint32_t a6plan_read_1998(const uint8_t *data, size_t data_length,
                           uint8_t *value, size_t value_length);
 
 /*
  * The data of a value of 273 octets in the 1998 layout, then zeros. figures: the octets written, and 0.
- * 10: prefix length over 128. 12: not a value that reading can give. 7: the output is too short.
+ * In this order, 10: prefix length over 128. 12: not a value that reading can give. 7: the output is too short.
  * 5, before everything else: the value slice is not of 273 octets, or the figures are not two.
  */
 uint32_t a6plan_write_1998(const uint8_t *value, size_t value_length,

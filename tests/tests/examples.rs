@@ -121,15 +121,19 @@ fn the_1998_layout_from_c() {
     compiled("convert");
     assert_eq!(printed_as_readme_says("target/convert-c"), " 40 00 00 00 00 00 00 00 07 01 70 01 61 00\n");
     let converted = |data: &[u8]| looked_up("target/convert-c", data, &[]);
-    let refused = |number, words: &str| (Some(number), String::new(), format!("refused {number}: {words}\n"));
+    let refused =
+        |number, words: &str| (Some(number), String::new(), format!("refused {number}: {words} octets read)\n"));
     let with = |rest: &[u8]| [&[0xff; 16], rest].concat();
-    assert_eq!(converted(&with(&[])), refused(11, "the data ends too soon"));
-    assert_eq!(converted(&with(&[200])), refused(10, "the prefix length is over 128"));
-    assert_eq!(converted(&with(&[64, 0xc0, 12])), refused(12, "the prefix name is malformed"));
-    assert_eq!(converted(&with(&[0, 0])), refused(13, "octets are left over"));
+    assert_eq!(converted(&with(&[])), refused(11, "the data ends too soon (16"));
+    assert_eq!(converted(&with(&[200])), refused(10, "the prefix length, the seventeenth octet, is over 128 (17"));
+    assert_eq!(converted(&with(&[64, 0xc0, 12])), refused(12, "the prefix name is malformed, or compressed (19"));
+    assert_eq!(converted(&with(&[0, 0])), refused(13, "octets are left over (18"));
     // A name that goes on and on is malformed, however much of it there is.
-    assert_eq!(converted(&with(&[&[64], &[63; 6_400][..]].concat())), refused(12, "the prefix name is malformed"));
-    assert_eq!(converted(&with(&[&[64, 0], &[0; 6_400][..]].concat())), refused(13, "octets are left over"));
+    assert_eq!(
+        converted(&with(&[&[64], &[63; 6_400][..]].concat())),
+        refused(12, "the prefix name is malformed, or compressed (512")
+    );
+    assert_eq!(converted(&with(&[&[64, 0], &[0; 6_400][..]].concat())), refused(13, "octets are left over (512"));
     assert_eq!(converted(&with(&[121, 0])), (Some(0), "y\x7f\0".into(), String::new()));
     assert_fails_plainly("target/convert-c", &input_of("target/convert-c"));
 }

@@ -1,19 +1,20 @@
 -- Laws of what an answer becomes at the C interface.
-use Prim.Native.Nat.{ℕ, zero, suc, _-_, _≤_, _<_}
+use Prim.Native.Nat.{ℕ, zero, suc, _+_, _-_, _≤_, _<_}
 use mathlib.Core.Path.{_≡_, refl, ap, _∙_, sym}
 use mathlib.Core.Bool.{Bool, true, false, not}
 use mathlib.Core.List.{List, [], _∷_, _++_, append-nil, append-assoc}
 use lib.Dec.{eqb, ltb}
 use lib.ListN.{length, take, drop, set, length-append, length-take, length-drop, drop-of-length-le}
-use lib.Seq.{length-take-le, take-all, take-at, drop-at, set-at}
+use lib.Seq.{length-take-le, take-all, take-at, drop-at, drop-append-add, getD-at, set-at}
 use native.Mathlib.Omega.{arith}
-use borrow.Author.Tests.{eq-eqb, ne-eqb, lt-ltb, le-ltb, eqb-true, eqb-false, ltb-true, ltb-false}
+use borrow.Author.Tests.{not-false, eq-eqb, ne-eqb, lt-ltb, le-ltb, eqb-true, eqb-false, ltb-true, ltb-false}
 use Rattle.octets.specs.Octets.{blank}
 use Rattle.octets.specs.declared.Answer.{Answer}
 use Rattle.octets.specs.Answers.{orElse, answerBy, outBy}
 use Rattle.octets.proofs.AnswerLaws.{earns-zero, not-nought, refused-out, by-number}
 use Rattle.octets.proofs.OctetLaws.{length-blank}
 use Rattle.octets.proofs.BoolLaws.{clash}
+use Rattle.a6.specs.Data.{Shaped}
 use Rattle.a6.specs.declared.Value.{Value}
 use Rattle.a6.specs.Accepted.{valueNumber, roomNumber}
 use Rattle.a6.specs.Parts.{valueAt, Tells, laidOf, laidNumber}
@@ -163,21 +164,24 @@ unfolding outBy
 out-alike zero a b room g = ap (λ (x : List ℕ). x ++ blank (room - length x)) (g refl)
 out-alike (suc j) a b room g = refl
 
-pub read-fit : (m k r : ℕ) (result : List ℕ) {end : List ℕ} → m ≡ valueSize → (r ≡ k) × (end ≡ outBy r result valueSize) → (r ≡ exportedReadNumber m k) × (end ≡ outBy r result m)
+pub read-right : (m k : ℕ) → m ≡ valueSize → exportedReadNumber m k ≡ k
 unfolding exportedReadNumber
-read-fit m k r result h p = (p .0 ∙ rw (eq-eqb m valueSize h), p .1 ∙ ap (outBy r result) (sym h))
+read-right m k h = rw (eq-eqb m valueSize h)
 
--- 0 comes out only where 0 went in
-read-zero : (m k : ℕ) → exportedReadNumber m k ≡ 0 → k ≡ 0
+pub read-fit : (m k r : ℕ) (result : List ℕ) {end : List ℕ} → m ≡ valueSize → (r ≡ k) × (end ≡ outBy r result valueSize) → (r ≡ exportedReadNumber m k) × (end ≡ outBy r result m)
+read-fit m k r result h p = (p .0 ∙ sym (read-right m k h), p .1 ∙ ap (outBy r result) (sym h))
+
+-- 0 comes out only where 0 went in and the length is right
+pub read-zero : (m k : ℕ) → exportedReadNumber m k ≡ 0 → (m ≡ valueSize) × (k ≡ 0)
 unfolding exportedReadNumber
-read-zero m k e = earns-zero (not (eqb m valueSize)) 4 k e .1
+read-zero m k e = let t = earns-zero (not (eqb m valueSize)) 4 k e in (eqb-true m valueSize (not-false (eqb m valueSize) (t .0)), t .1)
 
 -- what the tests of a layout say of data, and what has become of the slice by it
 pub read-told : (m : ℕ) (octets : List ℕ) (f : Found) (number : ℕ) (v : Value) (r : ℕ) {end : List ℕ} → Tells octets f number v
     → (r ≡ exportedReadNumber m (f .number)) × (end ≡ outBy r (valueOctets (valueAt octets f)) m) → (r ≡ exportedReadNumber m number) × (end ≡ outBy r (valueOctets v) m)
 read-told m octets f number v r t p =
     let e = p .0 ∙ ap (exportedReadNumber m) (t .0) in
-    (e, p .1 ∙ out-alike r _ _ m (λ z. ap valueOctets (t .1 (read-zero m number (sym e ∙ z)) .1)))
+    (e, p .1 ∙ out-alike r _ _ m (λ z. ap valueOctets (t .1 (read-zero m number (sym e ∙ z) .1) .1)))
 
 -- ---- writing, in each layout: 5 before everything else
 module _ (m n : ℕ) where
@@ -197,6 +201,15 @@ module _ (m n : ℕ) where
       go true e true f = (eqb-true m valueSize e, eqb-true n 2 f)
       go true e false f = absurd (clash (misfit-figures (eqb-true m valueSize e) (eqb-false n 2 f)) h)
       go false e b f = absurd (clash (misfit-value (eqb-false m valueSize e)) h)
+
+  pub write-right : (k : ℕ) → m ≡ valueSize → n ≡ 2 → exportedWriteNumber m n k ≡ k
+  unfolding exportedWriteNumber
+  write-right k h l = rw (fitting h l)
+
+  -- 0 comes out only where 0 went in and the lengths are right
+  pub write-zero : (k : ℕ) → exportedWriteNumber m n k ≡ 0 → ((m ≡ valueSize) × (n ≡ 2)) × (k ≡ 0)
+  unfolding exportedWriteNumber
+  write-zero k e = let t = earns-zero (misfit m n) 4 k e in (fits (t .0), t .1)
 
   -- what a writing with result `xs`, and an output of `size` octets, comes to by its number k
   module _ (k : ℕ) (xs : List ℕ) (size : ℕ) {out figures : List ℕ} where
@@ -239,3 +252,19 @@ written-as m n v before octets size {r} d p = (
   p .0 ∙ ap (exportedWriteNumber m n) (laid-number v before octets d size),
   (p .1 .0 ∙ ap (λ (xs : List ℕ). outBy r xs size) d, p .1 .1 ∙ ap (λ (a : Answer). exportedFigures r a n) (laid-answer v before octets d size)),
 )
+
+-- Theorem: a value that is put into 273 octets is taken out of them again
+module _ (v : Value) (s : Shaped v) where
+  pub value-held : valueIn (valueOctets v) ≡ v
+  unfolding valueIn valueOctets
+  value-held =
+      let ys = v .name .length ∷ v .name .octets in
+      let d : drop 17 (v .address ++ ys) ≡ v .name .octets = ap (λ (k : ℕ). drop (k + 1) (v .address ++ ys)) (sym (s .address-long)) ∙ drop-append-add (v .address) ys 1 in
+      let a = take-at (v .address) ys 16 (s .address-long) in
+      let n = getD-at (v .address) (v .name .length) (v .name .octets) 0 16 (s .address-long) in
+      let o = ap (take 255) d ∙ take-all 255 (v .name .octets) (omega (arith, s .octets-long)) in
+      λ i. record { prefix = v .prefix; address = a i; name = record { octets = o i; length = n i } }
+
+  pub value-size : length (valueOctets v) ≡ valueSize
+  unfolding valueOctets
+  value-size = omega (arith, length-append (v .address) (v .name .length ∷ v .name .octets), s .address-long, s .octets-long)

@@ -2,7 +2,7 @@
 use Prim.Native.Nat.{ℕ, _+_, _-_, _/_, _≤_, max}
 use mathlib.Core.Path.{_≡_, ap, _∙_, sym}
 use mathlib.Core.List.{List, _∷_, _++_}
-use lib.ListN.{length, drop, length-append, length-drop, drop-of-length-le}
+use lib.ListN.{length, drop, length-append, length-take, length-drop, drop-of-length-le}
 use lib.Seq.{take-at, take-all, drop-append-add, getD-at}
 use native.Mathlib.Omega.{arith}
 use Rattle.octets.specs.Octets.{blank, Small}
@@ -55,6 +55,11 @@ module _ (v : Value) (long : length (v .address) ≡ 16) where
   data-length : length (draftData v) ≡ 17 + length (octetsOf (v .name))
   unfolding draftData
   data-length = length-append (v .address) (v .prefix ∷ octetsOf (v .name)) ∙ omega arith
+
+  -- 272 octets are enough for every value
+  pub data-short : v .name .length ≤ 255 → length (draftData v) ≤ 272
+  unfolding octetsOf
+  data-short h = omega (arith, data-length, length-take (v .name .length) (v .name .octets))
 
   data-address : addressPart (draftData v) ≡ v .address
   unfolding draftData

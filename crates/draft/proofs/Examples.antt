@@ -72,3 +72,23 @@ refusals = refl
 refused-value : draftReading (blank 16 ++ (129 ∷ [])) ≡ record { number = 10; value = record { prefix = 0; address = blank 16; name = nameOf [] } }
 unfolding draft-compute
 refused-value = refl
+
+-- octets that all differ stay in their order, and the first 20 bits are cleared
+apart : List ℕ
+apart = 0xF1 ∷ 0xF2 ∷ 0xF3 ∷ 4 ∷ 5 ∷ 6 ∷ 7 ∷ 8 ∷ 9 ∷ 10 ∷ 11 ∷ 12 ∷ 13 ∷ 14 ∷ 15 ∷ 16 ∷ []
+
+in-order : (draftReading (apart ++ (20 ∷ p)) .value .address ≡ 0 ∷ 0 ∷ 3 ∷ 4 ∷ 5 ∷ 6 ∷ 7 ∷ 8 ∷ 9 ∷ 10 ∷ 11 ∷ 12 ∷ 13 ∷ 14 ∷ 15 ∷ 16 ∷ [])
+    × (draftReading (apart ++ (0 ∷ [])) .value .address ≡ apart)
+unfolding draft-compute apart p
+in-order = (refl, refl)
+
+-- what is wrong with a value comes before the room
+no-room : map (λ v. draftWriteNumber v 0) (
+    record { prefix = 129; address = blank 16; name = nameOf p }
+    ∷ record { prefix = 7; address = blank 16; name = nameOf [] }
+    ∷ record { prefix = 7; address = 2 ∷ blank 15; name = nameOf p }
+    ∷ record { prefix = 7; address = 1 ∷ blank 15; name = nameOf p }
+    ∷ [])
+    ≡ 10 ∷ 12 ∷ 12 ∷ 7 ∷ []
+unfolding draft-compute p
+no-room = refl
