@@ -164,9 +164,9 @@ pub fn lay(
 {
     octets::clear(out);
     let count = octets::wide(size);
-    let number = value_number(prefix, address, octets, count);
-    if number != 0 {
-        return octets::refused(number);
+    let wrong = value_number(prefix, address, octets, count);
+    if wrong != 0 {
+        return octets::refused(wrong);
     }
     let after = larger(before, octets::wide(prefix / 8));
     put_data(prefix, address, before, after, &octets[..count], out)

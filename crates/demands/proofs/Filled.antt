@@ -9,6 +9,7 @@ use lib.ListN.{length, length-map}
 use native.Mathlib.Omega.{arith}
 use borrow.Author.Tests.{eqb-true, ltb-false, not-false}
 use Rattle.octets.specs.Octets.{Small, flat}
+use Rattle.octets.specs.Answers.{outBy}
 use Rattle.octets.proofs.AnswerLaws.{earns-zero, else-zero, not-nought, by-length}
 use Rattle.octets.proofs.FlatLaws.{flat-length}
 use Rattle.labels.specs.Scan.{wellFormed}
@@ -19,6 +20,15 @@ use Rattle.chains.specs.Listing.{workOf}
 use Rattle.chains.specs.Addresses.{addressesOf}
 use Rattle.chains.specs.Lifetimes.{lifetimeOf}
 use Rattle.chains.proofs.AddressesLaws.{addresses-each}
+use Rattle.a6.specs.Read.{readNumber, valueOf}
+use Rattle.a6.specs.Write.{dataOf, writeNumber, writeOut}
+use Rattle.a6.specs.declared.Value.{Value}
+use Rattle.a6.proofs.AcceptedLaws.{write-fits}
+use Rattle.a6.proofs.Layouts.{Layout}
+use Rattle.a6.proofs.RoundTrip.{a6-layout}
+use Rattle.draft.specs.Read.{draftNumber, draftValue}
+use Rattle.draft.specs.Write.{draftData, draftWriteNumber, draftOut}
+use Rattle.draft.proofs.RoundTrip.{draft-layout}
 use Rattle.plan.specs.Layout.{recordSize, nameRoom}
 use Rattle.plan.specs.Check.{entryNumber}
 use Rattle.plan.specs.Graph.{graphOf}
@@ -38,6 +48,8 @@ use Rattle.collapse.specs.Fold.{foldOf, reviving}
 use Rattle.collapse.specs.Collapse as collapse
 use Rattle.collapse.specs.Collapse.{misshapen, passes, collapseOut}
 use Rattle.collapse.proofs.FoldLaws.{fold-whole}
+use Rattle.a6plan.specs.Exports.{valueOctets, exportedReadNumber}
+use Rattle.a6plan.proofs.ExportLaws.{read-zero, value-size}
 
 -- ---- names
 -- the standard form has room in 255 octets
@@ -51,6 +63,27 @@ standard-filled name room s = by-length (standardNumber name room) (standardOf n
         let b : room ≡ 255 = eqb-true room 255 (not-false _ (earns-zero (not (eqb room 255)) 4 _ (w .1) .0)) in
         let l = standard-short name s (not-false _ (w .0)) in
         omega arith
+
+-- ---- data
+-- what is written has room in the output, in either layout
+pub write-filled : (v : Value) (room : ℕ) → length (writeOut v room) ≡ room
+write-filled v room = by-length (writeNumber v room) (dataOf v) room (λ z. write-fits v (dataOf v) room z .1)
+
+pub draft-filled : (v : Value) (room : ℕ) → length (draftOut v room) ≡ room
+draft-filled v room = by-length (draftWriteNumber v room) (draftData v) room (λ z. write-fits v (draftData v) room z .1)
+
+-- a value that was read fills its slice
+module _ (L : Layout) (octets : List ℕ) (n : ℕ) (small : Small octets) where
+  value-filled : length (outBy (exportedReadNumber n (L .number octets)) (valueOctets (L .value octets)) n) ≡ n
+  value-filled =
+      by-length (exportedReadNumber n (L .number octets)) (valueOctets (L .value octets)) n
+      (λ z. let t = read-zero n (L .number octets) z in omega (arith, value-size (L .value octets) (L .read-shaped octets small (t .1)), t .0))
+
+pub read-filled : (octets : List ℕ) (n : ℕ) → Small octets → length (outBy (exportedReadNumber n (readNumber octets)) (valueOctets (valueOf octets)) n) ≡ n
+read-filled octets n small = value-filled a6-layout octets n small
+
+pub draft-read-filled : (octets : List ℕ) (n : ℕ) → Small octets → length (outBy (exportedReadNumber n (draftNumber octets)) (valueOctets (draftValue octets)) n) ≡ n
+draft-read-filled octets n small = value-filled draft-layout octets n small
 
 -- ---- lookup
 module _ (t name : List ℕ) (limit size room : ℕ) where
