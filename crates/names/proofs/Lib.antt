@@ -4,6 +4,8 @@ pub mod WriteLaws
 pub mod RoundLaws
 pub mod StandardLaws
 pub mod StandardSmall
+pub mod LowerLaws
+pub mod KeyLaws
 pub mod AnswerLaws
 pub mod FrontLaws
 pub mod NameLaws

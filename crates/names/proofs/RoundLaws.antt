@@ -13,7 +13,7 @@ use Rattle.bits.specs.Packing.{Bits}
 use Rattle.labels.specs.Labels.{Label, ordinary, bits, firstOf, countFor, countOf, sizeOf, runOf, labelOf, unusedClear, faultOf}
 use Rattle.labels.specs.Scan.{Reading, done, with, scanFrom, scanOf, apart, labelsOf, fills, wellFormed}
 use Rattle.labels.specs.Reads.{Reads, root, more}
-use Rattle.names.specs.Standard.{Unit, label, bit, before, units, unitsOf, bitLabel, encodeFrom, encode, standardOf, keyOf, Same}
+use Rattle.names.specs.Standard.{Unit, label, bit, before, units, unitsOf, bitLabel, encodeFrom, encode, standardOf, keys, keyOf, Same}
 use Rattle.names.proofs.Written.{writeLabel, written}
 use Rattle.names.proofs.Merged.{oneLabel, merged, Fit, AllFit}
 use Rattle.octets.specs.Octets.{Small}
@@ -120,7 +120,7 @@ front-ordinary used run l rest h k =
       label-is = label-ordinary xs n ∙ ap ordinary (take-append-seam l rest);
     }
 
-count-again : (n : ℕ) → 0 < n → n ≤ 256 → countFor (n % 256) ≡ n
+pub count-again : (n : ℕ) → 0 < n → n ≤ 256 → countFor (n % 256) ≡ n
 unfolding countFor
 count-again n p q = go (eqb (n % 256) 0) refl
   where
@@ -202,7 +202,7 @@ unfolding oneLabel
 fit-one [] ms b l h = h
 fit-one (x ∷ run) ms b l h = ((omega arith, l, b), h)
 
-fit-merged : {used r : ℕ} {xs : List ℕ} {ls : List Label} {end : ℕ} → Reads used r xs ls end → (run : List ℕ) → Bits run → length run ≡ r → r ≤ 256 → AllFit (merged run ls)
+pub fit-merged : {used r : ℕ} {xs : List ℕ} {ls : List Label} {end : ℕ} → Reads used r xs ls end → (run : List ℕ) → Bits run → length run ≡ r → r ≤ 256 → AllFit (merged run ls)
 unfolding merged
 fit-merged (root o f e) run b l k = fit-one run [] b (omega arith) (record {})
 fit-merged (more {used = used} {run = r} {xs = xs} {l = l} {ls = ls} {end = end} o f e q) run b m k =
@@ -285,15 +285,10 @@ module _ (xs : List ℕ) (s : Small xs) (w : wellFormed xs ≡ true) where
   unfolding standardOf
   standard-again = ap encode standard-units
 
--- Theorem: well-formed names that are the same have equal units
-pub same-units : (m n : List ℕ) → Small m → Small n → wellFormed m ≡ true → wellFormed n ≡ true → Same m n → unitsOf m ≡ unitsOf n
-unfolding keyOf
-same-units m n s t u v h = sym (standard-units m s u) ∙ ap unitsOf h ∙ standard-units n t v
-
 -- Theorem: names with equal units are the same
 pub units-same : (m n : List ℕ) → unitsOf m ≡ unitsOf n → Same m n
-unfolding keyOf standardOf
-units-same m n h = ap encode h
+unfolding keyOf
+units-same m n h = ap (λ (us : List Unit). encode (keys us)) h
 
 -- Theorem: the standard form of a name is the same name
 pub same-standard : (m : List ℕ) → Small m → wellFormed m ≡ true → Same (standardOf m) m

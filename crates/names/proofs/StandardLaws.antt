@@ -114,8 +114,3 @@ same-name-same m n h = same-eq (keyOf m) (keyOf n) h
 pub same-same-name : (m n : List ℕ) → Same m n → sameName m n ≡ true
 unfolding sameName
 same-same-name m n h = rw h (same-refl (keyOf n))
-
--- Theorem: names in standard form are the same name exactly when they are the same octets
-pub same-octets : (m n : List ℕ) → inStandardForm m ≡ true → inStandardForm n ≡ true → same m n ≡ sameName m n
-unfolding sameName keyOf
-same-octets m n p q = rw (in-standard m p .1, in-standard n q .1)

@@ -1,8 +1,9 @@
--- Units, the standard form, and when two names are the same (01, Names).
-use Prim.Native.Nat.{ℕ, _%_}
+-- Units, the standard form, and when two names are the same (01, Names; T-03).
+use Prim.Native.Nat.{ℕ, _+_, _%_}
 use mathlib.Core.Path.{_≡_}
-use mathlib.Core.Bool.{Bool, _&&_}
-use mathlib.Core.List.{List, [], _∷_, _++_}
+use mathlib.Core.Bool.{Bool, true, false, _&&_}
+use mathlib.Core.List.{List, [], _∷_, _++_, map}
+use lib.Dec.{ltb}
 use lib.ListN.{length}
 use Rattle.octets.specs.Octets.{same}
 use Rattle.bits.specs.Bits.{pack}
@@ -49,11 +50,24 @@ encode us = encodeFrom [] us
 unfoldable pub standardOf : List ℕ → List ℕ
 standardOf xs = encode (unitsOf xs)
 
--- what tells names apart: the key of a name, octets that two names share exactly when they are the same
-unfoldable pub keyOf : List ℕ → List ℕ
-keyOf xs = standardOf xs
+-- T-03: a letter from A to Z, 65 to 90, as the one from a to z; every other octet as it is
+unfoldable pub lower : ℕ → ℕ
+lower x = elim (ltb 64 x && ltb x 91) [ true ↦ x + 32 | false ↦ x ]
 
--- two names are the same: their keys are the same octets (01, Names)
+-- the key of a unit: an ordinary label with its letters in lower case; a bit is its own
+unfoldable pub keyUnit : Unit → Unit
+keyUnit (label l) = label (map lower l)
+keyUnit (bit b) = bit b
+
+-- the keys of units
+abbrev pub keys : List Unit → List Unit
+keys = map keyUnit
+
+-- what tells names apart: the key of a name, the keys of its units in standard form; letters are spelt so in keys alone, and in nothing that is written
+unfoldable pub keyOf : List ℕ → List ℕ
+keyOf xs = encode (keys (unitsOf xs))
+
+-- two names are the same: their keys are the same octets (01, Names; T-03)
 abbrev pub Same : List ℕ → List ℕ → Type 0
 Same m n = keyOf m ≡ keyOf n
 

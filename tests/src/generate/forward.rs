@@ -1,18 +1,19 @@
 //! Tables for lookups and collapses: small ones full of loops, deep ones, and those whose work is beyond counting.
 
 use super::names::{self, Name};
-use super::plan::{a6_record, any_ttls, dname_record, name, usual_ttls, MOST, RECORD};
+use super::plan::{a6_record, any_ttls, dname_record, mix_case, name, usual_ttls, MOST, RECORD};
 use super::{a6, Random};
+use crate::plain::names::{same, whole};
 
-/// A table and the names in it, owners and targets.
+/// A table and the names in it, owners and targets, each in one spelling or more.
 #[derive(Default)]
 pub struct Tangle {
     pub table: Vec<u8>,
     pub names: Vec<Vec<u8>>,
 }
 
-/// Names that are alike.
-const ALIKE: [&str; 10] = ["", "a", "b", "A", "a.a", "b.a", "x.a", "p.a", "ab", "a.b"];
+/// Names that are alike, also in the bit that is a letter's case where there is no letter.
+const ALIKE: [&str; 13] = ["", "a", "b", "A", "a.a", "b.a", "B.a", "x.a", "p.a", "ab", "a.b", "[.a", "{.a"];
 
 /// Some name in standard form: alike ones mostly, ones with bit labels that differ in a bit, any.
 fn some_name(random: &mut Random, made: &mut Name) -> Vec<u8> {
@@ -20,7 +21,7 @@ fn some_name(random: &mut Random, made: &mut Name) -> Vec<u8> {
     match random.below(8) {
         0 => names::standard(random, made),
         1 | 2 => {
-            let octets = [random.pick(&[0x80, 0, 0xff]); 32];
+            let octets = [random.pick(&[0x80, 0, 0xff, 0x41, 0x61]); 32];
             made.bits(random.pick(&[1, 2, 8, 9, 64, 256]), &octets);
             if random.once_in(2) {
                 made.label(b"a");
@@ -80,14 +81,15 @@ pub fn tangle(random: &mut Random, made: &mut Name, most: usize, tangle: &mut Ta
         }
     }
     let palette = palette(random);
-    let mut renamed: Vec<Vec<u8>> = Vec::new();
+    let mut renamed = Vec::new();
     let few = random.once_in(3);
     let records = random.between(0, if few { most.min(5) } else { most });
     for _ in 0..records {
         let from = random.below(names.len());
         let owner = &names[from];
-        let record = if random.once_in(palette.dnames) && !renamed.contains(owner) {
-            renamed.push(owner.clone());
+        let units = whole(owner).expect("a name");
+        let record = if random.once_in(palette.dnames) && !renamed.iter().any(|other| same(other, &units)) {
+            renamed.push(units);
             dname_record(owner, &names[random.below(names.len())])
         } else if table.len() >= RECORD && random.once_in(6) {
             let other = random.below(table.len() / RECORD) * RECORD;
@@ -112,9 +114,17 @@ pub fn tangle(random: &mut Random, made: &mut Name, most: usize, tangle: &mut Ta
         };
         table.extend(record);
     }
+    respell(random, table);
     any_ttls(random, table);
     if random.once_in(8) {
         names.push(name("dangling.a"));
+    }
+}
+
+/// Puts the letters of a table in either case, three times in four.
+fn respell(random: &mut Random, table: &mut [u8]) {
+    if !random.once_in(4) {
+        mix_case(random, table);
     }
 }
 
@@ -148,6 +158,7 @@ pub fn layers(random: &mut Random, made: &mut Name, most: usize, tangle: &mut Ta
         let owner = &names[random.below(names.len())];
         table.extend(dname_record(owner, &names[0]));
     }
+    respell(random, table);
     any_ttls(random, table);
 }
 
@@ -204,6 +215,7 @@ pub fn deep(random: &mut Random, records: usize, tangle: &mut Tangle) {
     random.shuffle(&mut made);
     table.clear();
     table.extend(made.concat());
+    respell(random, table);
     any_ttls(random, table);
 }
 

@@ -318,8 +318,40 @@ fn made(number: usize, mut make: impl FnMut(&mut Name)) -> Vec<Vec<u8>> {
     names
 }
 
-/// Another spelling of a name in standard form: its bit labels cut in two or three at any places, as far as the name
-/// stays within 255 octets.
+/// Puts each letter in the ordinary labels of a name in either case (T-03). Octets that are no name are left as they are
+/// from the first bad label on.
+pub fn mix_case(random: &mut Random, octets: &mut [u8]) {
+    let mut at = 0;
+    while let Some(&first) = octets.get(at) {
+        at += 1;
+        let size = match first {
+            1..=63 => first as usize,
+            65 => {
+                let count = octets.get(at).copied().unwrap_or(0) as usize;
+                at += 1 + if count == 0 { 32 } else { count.div_ceil(8) };
+                continue;
+            }
+            _ => return,
+        };
+        let Some(label) = octets.get_mut(at..at + size) else { return };
+        let mut cases = random.number();
+        for octet in label.iter_mut().filter(|octet| octet.is_ascii_alphabetic()) {
+            *octet ^= (cases as u8 & 1) << 5;
+            cases >>= 1;
+        }
+        at += size;
+    }
+}
+
+/// A name with its letters in either case.
+pub fn in_either_case(random: &mut Random, octets: &[u8]) -> Vec<u8> {
+    let mut octets = octets.to_vec();
+    mix_case(random, &mut octets);
+    octets
+}
+
+/// Another spelling of a name in standard form: its letters in either case, its bit labels cut in two or three at any
+/// places, as far as the name stays within 255 octets.
 pub fn respelt(random: &mut Random, octets: &[u8]) -> Vec<u8> {
     let mut name = Name::new();
     let mut at = 0;
@@ -344,6 +376,7 @@ pub fn respelt(random: &mut Random, octets: &[u8]) -> Vec<u8> {
         name.bits(left, &label[2..]);
     }
     name.end();
+    mix_case(random, &mut name.octets);
     name.octets
 }
 

@@ -48,6 +48,30 @@ pub fn dname_record(owner: &[u8], target: &[u8]) -> [u8; RECORD] {
     record(DNAME, 0, 0, owner, target)
 }
 
+// Letters.
+
+/// The octets of the name in a slot of a record.
+pub fn name_in(record: &[u8], slot: usize) -> &[u8] {
+    &record[slot + 1..slot + 1 + record[slot] as usize]
+}
+
+/// Puts the letters in the owners and targets of a table in either case (T-03). A table in order stays so.
+pub fn mix_case(random: &mut Random, table: &mut [u8]) {
+    for record in table.chunks_exact_mut(RECORD) {
+        for slot in [OWNER, TARGET] {
+            let end = slot + 1 + record[slot] as usize;
+            names::mix_case(random, &mut record[slot + 1..end]);
+        }
+    }
+}
+
+/// A table with the letters of its names in either case.
+pub fn in_either_case(random: &mut Random, table: &[u8]) -> Vec<u8> {
+    let mut table = table.to_vec();
+    mix_case(random, &mut table);
+    table
+}
+
 // TTLs.
 
 /// Gives a record this TTL.
@@ -235,8 +259,12 @@ pub fn worst(longest: usize) -> Vec<u8> {
 
 // Small tables.
 
-/// Names that make neighbours alike: equal ones come up, and ones that differ in a little.
-const ALIKE: [&str; 12] = ["", "a", "b", "A", "a.a", "a.b", "ab", "b.a", "aa", "p.a", "q.a", "a.a.a.a.a.a.a.a.b"];
+/// Names that make neighbours alike: equal ones come up, ones that differ in case alone, and ones that differ in a
+/// little, also in the bit that is a letter's case where there is no letter.
+const ALIKE: [&str; 18] = [
+    "", "a", "b", "A", "a.a", "A.a", "a.b", "ab", "b.a", "aa", "p.a", "q.a", "a.a.a.a.a.a.a.a.b", "a.A.a.A.a.a.a.a.B",
+    "@", "`", "Á", "á",
+];
 
 /// The octets of some name in standard form, from the few alike ones or any.
 fn some_name(random: &mut Random, made: &mut Name) -> Vec<u8> {
@@ -244,7 +272,7 @@ fn some_name(random: &mut Random, made: &mut Name) -> Vec<u8> {
         names::standard(random, made);
         made.octets.clone()
     } else if random.once_in(4) {
-        bits_under(random.pick(&[1, 7, 8]), random.pick(&[0, 1]) << 127, random.pick(&ALIKE))
+        bits_under(random.pick(&[1, 7, 8]), random.pick(&[0, 0x80, 0x41, 0x61]) << 120, random.pick(&ALIKE))
     } else {
         name(random.pick(&ALIKE))
     }
@@ -265,7 +293,7 @@ pub fn good_record(random: &mut Random, made: &mut Name) -> [u8; RECORD] {
     record
 }
 
-/// A table of `records` records that keep the layout; some share their owners.
+/// A table of `records` records that keep the layout; some share their owners, in one spelling or in several.
 pub fn good_table(random: &mut Random, made: &mut Name, records: usize, table: &mut Vec<u8>) {
     table.clear();
     for _ in 0..records {
@@ -276,6 +304,9 @@ pub fn good_table(random: &mut Random, made: &mut Name, records: usize, table: &
             good_record(random, made)
         };
         table.extend(record);
+    }
+    if random.once_in(2) {
+        mix_case(random, table);
     }
 }
 
@@ -314,6 +345,7 @@ pub fn earning(good: &[u8]) -> Vec<(Vec<u8>, u32)> {
         ([&lasting[..], &shared, &shared].concat(), 2),
         (lasting, 2),
         ([good, &shared, &shared].concat(), 3),
+        ([good, &shared, &dname_record(&name("S.a"), &name("t.a"))].concat(), 3),
     ]
 }
 
@@ -328,7 +360,7 @@ pub fn spoil(random: &mut Random, made: &mut Name, table: &mut Vec<u8>) {
                 damage(random, made, record);
             }
         }
-        4 => table.extend(dname_record(&name("twice"), &name("t")).repeat(2)),
+        4 => table.extend(["twice", random.pick(&["twice", "TWIce"])].map(|owner| dname_record(&name(owner), &name("t"))).concat()),
         _ => {}
     }
 }

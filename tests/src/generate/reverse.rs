@@ -1,9 +1,9 @@
 //! Tables of DNAMEs along the walk of an address.
 
 use super::names::{self, Name};
-use super::plan::{a6_record, any_ttls, dname_record, name};
+use super::plan::{a6_record, any_ttls, dname_record, mix_case, name};
 use super::Random;
-use crate::plain::names::{encode, whole, Unit};
+use crate::plain::names::{below, encode, same, whole, Unit};
 use crate::plain::reverse::{start, step, Dname};
 
 /// A table and an address whose name its DNAMEs rewrite.
@@ -85,9 +85,9 @@ pub fn walk(random: &mut Random, made: &mut Name, walk: &mut Walk) {
     for _ in 0..random.below(7) {
         for _ in 0..random.pick(&[1, 1, 1, 2, 3]) {
             let owner = owner(random, &units);
-            if dnames.iter().all(|(other, _)| *other != owner) {
-                let kept = if units.ends_with(&owner) { units.len() - owner.len() } else { units.len() };
-                let target = target(random, made, &units[..kept], &dnames);
+            if !dnames.iter().any(|(other, _)| same(other, &owner)) {
+                let kept = below(&units, &owner).unwrap_or(&units);
+                let target = target(random, made, kept, &dnames);
                 dnames.push((owner, whole(&target).expect("a target")));
             }
         }
@@ -102,6 +102,9 @@ pub fn walk(random: &mut Random, made: &mut Name, walk: &mut Walk) {
             table.extend(a6_record(&encode(owner), 64, 7, &encode(target)));
         }
         table.extend(dname_record(&encode(owner), &encode(target)));
+    }
+    if !random.once_in(4) {
+        mix_case(random, table);
     }
     any_ttls(random, table);
 }

@@ -1,4 +1,4 @@
-//! Collapse (01, Collapse of a name X), record by record and bit by bit.
+//! Collapse (01, Collapse of a name X; T-03), record by record and bit by bit.
 
 use super::names::{self, Unit};
 use super::plan::RECORD;
@@ -17,14 +17,20 @@ struct Record<'a> {
 impl Record<'_> {
     /// An A6 record of the name with a prefix length over 0.
     fn is_unfinished_of(&self, name: &[Unit]) -> bool {
-        self.a6 && self.length > 0 && self.owner == name
+        self.length > 0 && self.is_owned_by(name)
     }
 
-    fn is_owned_by(&self, target: &Option<Vec<Unit>>) -> bool {
-        self.a6 && target.as_ref() == Some(&self.owner)
+    /// An A6 record of the name.
+    fn is_owned_by(&self, name: &[Unit]) -> bool {
+        self.a6 && names::same(&self.owner, name)
     }
 
-    /// This record with another one of its target folded into it.
+    /// An A6 record with the name as its target.
+    fn refers_to(&self, name: &[Unit]) -> bool {
+        self.a6 && self.target.as_ref().is_some_and(|target| names::same(target, name))
+    }
+
+    /// This record with another one of its target folded into it: the owner is spelt as here, the target as there.
     fn folded(&self, other: &Record) -> Vec<u8> {
         let mut octets = vec![0, 38, other.octets[2], 0];
         for at in 0..16 {
@@ -63,8 +69,9 @@ impl Plan<'_> {
         let mut folded = Vec::new();
         for record in &self.records {
             if record.is_unfinished_of(name) {
+                let target = record.target.as_ref().expect("a target");
                 for other in &self.records {
-                    if other.is_owned_by(&record.target) && other.length <= record.length {
+                    if other.is_owned_by(target) && other.length <= record.length {
                         folded.extend(record.folded(other));
                     }
                 }
@@ -77,12 +84,12 @@ impl Plan<'_> {
 
     /// The name owns an A6 record.
     pub fn owns(&self, name: &[Unit]) -> bool {
-        self.records.iter().any(|record| record.a6 && record.owner == name)
+        self.records.iter().any(|record| record.is_owned_by(name))
     }
 
     /// Some A6 record with the name as its target is shorter than an unfinished one of the name.
     pub fn is_reviving(&self, name: &[Unit]) -> bool {
-        let mut referrers = self.records.iter().filter(|record| record.a6 && record.target.as_deref() == Some(name));
+        let mut referrers = self.records.iter().filter(|record| record.refers_to(name));
         referrers.any(|referrer| {
             self.records.iter().any(|record| record.is_unfinished_of(name) && referrer.length < record.length)
         })

@@ -1,5 +1,6 @@
-//! Chains and addresses (01, Chains), twice over: chains as lists of records with no repeats, whose number is the work
-//! and whose records give the TTLs (T-01), and the addresses of all finite chains, repeats allowed, as a fixed point.
+//! Chains and addresses (01, Chains; T-03), twice over: chains as lists of records with no repeats, whose number is the
+//! work and whose records give the TTLs (T-01), and the addresses of all finite chains, repeats allowed, as a fixed
+//! point.
 
 use super::names::{self, Unit};
 use super::{answer, demand, plan, Answer};
@@ -51,7 +52,7 @@ impl Graph {
     }
 
     fn find(&self, name: &[Unit]) -> Option<usize> {
-        self.names.iter().position(|known| known == name)
+        self.names.iter().position(|known| names::same(known, name))
     }
 
     /// The names in the table's A6 records, owners and targets.

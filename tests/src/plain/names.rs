@@ -1,12 +1,42 @@
-//! Names (01, Names) as lists of units.
+//! Names (01, Names; T-03) as lists of units.
 
 use super::{answer, demand, Answer};
 
-/// One unit of a name. Names list theirs lowest first.
+/// One unit of a name, spelt as it is. Names list theirs lowest first.
 #[derive(Clone, Debug, PartialEq)]
 pub enum Unit {
     Label(Vec<u8>),
     Bit(bool),
+}
+
+/// An octet of an ordinary label without its case: A to Z are a to z, every other octet is itself (T-03).
+fn small(octet: u8) -> u8 {
+    match octet {
+        b'A'..=b'Z' => octet - b'A' + b'a',
+        _ => octet,
+    }
+}
+
+/// Two units are the same: equal bits, or ordinary labels with equal octets but for the case of letters.
+fn same_unit(one: &Unit, other: &Unit) -> bool {
+    match (one, other) {
+        (Unit::Bit(one), Unit::Bit(other)) => one == other,
+        (Unit::Label(one), Unit::Label(other)) => {
+            one.len() == other.len() && one.iter().zip(other).all(|(one, other)| small(*one) == small(*other))
+        }
+        _ => false,
+    }
+}
+
+/// Two names are the same, whatever their spelling: unit for unit.
+pub fn same(one: &[Unit], other: &[Unit]) -> bool {
+    one.len() == other.len() && one.iter().zip(other).all(|(one, other)| same_unit(one, other))
+}
+
+/// The units of a name that stand below an owner; None where the name does not end with the units of the owner.
+pub fn below<'a>(name: &'a [Unit], owner: &[Unit]) -> Option<&'a [Unit]> {
+    let (below, rest) = name.split_at_checked(name.len().checked_sub(owner.len())?)?;
+    same(rest, owner).then_some(below)
 }
 
 /// Why octets are no name, in the order in which a label is judged.

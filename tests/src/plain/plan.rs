@@ -1,4 +1,4 @@
-//! The plan table (01, The plan table; T-01), field by field and by pairs.
+//! The plan table (01, The plan table; T-01, T-03), field by field and by pairs.
 
 use super::names::{self, Unit};
 
@@ -78,10 +78,10 @@ pub fn check(table: &[u8]) -> u32 {
     if records.iter().any(|record| fault(record).is_some()) {
         return 2;
     }
-    let owners: Vec<Option<Vec<Unit>>> =
-        records.iter().filter(|record| record[1] == 39).map(|record| name_in(owner_slot(record))).collect();
+    let owners: Vec<Vec<Unit>> =
+        records.iter().filter(|record| record[1] == 39).filter_map(|record| name_in(owner_slot(record))).collect();
     for (index, owner) in owners.iter().enumerate() {
-        if owners[..index].contains(owner) {
+        if owners[..index].iter().any(|other| names::same(other, owner)) {
             return 3;
         }
     }

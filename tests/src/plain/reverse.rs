@@ -1,9 +1,9 @@
-//! Reverse names (01, Reverse names) as lists of units.
+//! Reverse names (01, Reverse names; T-03) as lists of units.
 
 use super::names::{self, Unit};
 use super::{answer, demand, plan, Answer};
 
-/// The units of the name that stands for an address: its bits, the lowest first, then IP6 and ARPA.
+/// The units of the name that stands for an address: its bits, the lowest first, then IP6 and ARPA in capitals.
 pub fn start(address: &[u8]) -> Vec<Unit> {
     let bits = address.iter().flat_map(|octet| (0..8).map(move |bit| octet >> (7 - bit) & 1 == 1));
     let mut units: Vec<Unit> = bits.map(Unit::Bit).collect();
@@ -22,10 +22,10 @@ pub fn dnames(table: &[u8]) -> Vec<Dname> {
     dnames.map(|record| (name(plan::owner_slot(record)), name(plan::target_slot(record)))).collect()
 }
 
-/// The DNAME of most units among those with the name strictly beneath their owners.
-fn applying<'a>(dnames: &'a [Dname], name: &[Unit]) -> Option<&'a Dname> {
-    let beneath = |(owner, _): &&Dname| name.len() > owner.len() && name.ends_with(owner);
-    dnames.iter().filter(beneath).max_by_key(|(owner, _)| owner.len())
+/// The DNAME of most units among those with the name strictly beneath their owners, and the units below its owner.
+fn applying<'a>(dnames: &'a [Dname], name: &'a [Unit]) -> Option<(&'a [Unit], &'a Dname)> {
+    let beneath = dnames.iter().filter_map(|dname| Some((names::below(name, &dname.0)?, dname)));
+    beneath.filter(|(below, _)| !below.is_empty()).max_by_key(|(_, (owner, _))| owner.len())
 }
 
 /// The longest run of bits in a list of units.
@@ -33,10 +33,10 @@ fn longest_run(units: &[Unit]) -> usize {
     units.split(|unit| matches!(unit, Unit::Label(_))).map(|run| run.len()).max().unwrap_or(0)
 }
 
-/// The name that a rewrite gives; None where none is due, 8 where it gives too much.
+/// The name that a rewrite gives, its units spelt as in the name and in the target; None where none is due, 8 where it
+/// gives too much.
 pub fn step(dnames: &[Dname], name: &[Unit]) -> Option<Result<Vec<Unit>, u32>> {
-    let (owner, target) = applying(dnames, name)?;
-    let below = &name[..name.len() - owner.len()];
+    let (below, (_, target)) = applying(dnames, name)?;
     let next = [below, target].concat();
     Some(if longest_run(&next) > 256 || names::encode(&next).len() > 255 { Err(8) } else { Ok(next) })
 }

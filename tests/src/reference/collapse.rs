@@ -1,4 +1,4 @@
-//! Collapse of a name (01, Collapse of a name X).
+//! Collapse of a name (01, Collapse of a name X; T-03).
 //!
 //! One pass checks the table, notes where the A6 records of each owner stand, and finds the shortest record that refers
 //! to the name. The records to be folded are then known by their places; all between them is copied in one piece.
@@ -37,7 +37,7 @@ pub fn collapse(table: &[u8], name: &[u8], out: &mut [u8], figures: &mut [u32]) 
         }
         index.add(at, record);
         let length = plan::length_of(record);
-        if length > 0 && length < shortest && name.is_some_and(|name| plan::same(plan::target_of(record), &name)) {
+        if length > 0 && length < shortest && name.is_some_and(|name| names::same(plan::target_of(record), &name)) {
             shortest = length;
         }
     });

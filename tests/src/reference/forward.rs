@@ -1,4 +1,4 @@
-//! Address lookup (01, Chains; T-01): the addresses of a name, how long each lasts, and the work.
+//! Address lookup (01, Chains; T-01, T-03): the addresses of a name, how long each lasts, and the work.
 //!
 //! One pass checks the table and notes where the A6 records of each owner stand. The records that the given name leads
 //! to are numbered as they are met, those of a name in a ring by rising prefix length. From there on names, octets and

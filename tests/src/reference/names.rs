@@ -1,4 +1,4 @@
-//! Names (01, Names): reading one left to right, its standard form.
+//! Names (01, Names; T-03): reading one left to right, its standard form, comparing two.
 
 /// The most octets in a name.
 pub const NAME: usize = 255;
@@ -166,6 +166,83 @@ fn merge(name: &[u8], out: &mut [u8]) -> usize {
         merged.put(&mut out[to + 2..to + 2 + size]);
         to += 2 + size;
     }
+}
+
+/// The bit that makes a small letter of a capital, in an octet and in the octets of words.
+const CASE: u8 = 0x20;
+const CASES: u64 = u64::from_ne_bytes([CASE; 8]);
+const ALL_CASES: u128 = u128::from_ne_bytes([CASE; 16]);
+
+/// Eight octets without what a letter's case changes. Other octets are changed as well: what comes of it is good for
+/// hashes, which may be equal where names are not.
+#[inline(always)]
+pub fn caseless(word: u64) -> u64 {
+    word & !CASES
+}
+
+/// Names in standard form, or the last labels of such names, are the same: both slices begin with a label and have one
+/// length. Most are equal octet for octet, or differ in more than the case of a letter.
+#[inline(always)]
+pub fn same_labels(one: &[u8], other: &[u8]) -> bool {
+    one == other || alike(one, other) && differ_in_case(one, other)
+}
+
+/// Slices of one length differ in nothing but bits that could be a letter's case.
+#[inline(always)]
+fn alike(one: &[u8], other: &[u8]) -> bool {
+    one.iter().zip(other).fold(0, |all, (one, other)| all | (one ^ other)) & !CASE == 0
+}
+
+/// `same_labels` for names that are alike, label by label: each octet that differs is a letter inside an ordinary label.
+#[cold]
+fn differ_in_case(one: &[u8], other: &[u8]) -> bool {
+    let mut at = 0;
+    loop {
+        let first = one[at];
+        if first != other[at] {
+            return false;
+        }
+        let size = match first {
+            0 => return true,
+            BIT_LABEL => 2 + bits_of(one[at + 1]).div_ceil(8),
+            _ => 1 + first as usize,
+        };
+        let (one, other) = (&one[at..at + size], &other[at..at + size]);
+        let same = if first == BIT_LABEL { one == other } else { one[1..].eq_ignore_ascii_case(&other[1..]) };
+        if !same {
+            return false;
+        }
+        at += size;
+    }
+}
+
+/// Octets that are looked at of every slot; most names fit in them.
+pub const USUAL: usize = 32;
+
+/// The octets of a slot that may be set after the usual ones.
+#[inline(always)]
+pub fn unusual(slot: &[u8; SLOT]) -> &[u8] {
+    let end = (slot[0] as usize / 8 + 1) * 8;
+    &slot[USUAL..end.max(USUAL)]
+}
+
+/// Two slots hold the same name.
+#[inline(always)]
+pub fn same(one: &[u8; SLOT], other: &[u8; SLOT]) -> bool {
+    let (ones, _) = one.as_chunks::<16>();
+    let (others, _) = other.as_chunks::<16>();
+    let differ = |at: usize| u128::from_ne_bytes(ones[at]) ^ u128::from_ne_bytes(others[at]);
+    let usual = differ(0) | differ(1);
+    if usual & !ALL_CASES != 0 {
+        return false;
+    }
+    usual == 0 && unusual(one) == unusual(other) || one[0] == other[0] && same_labels(name_in(one), name_in(other))
+}
+
+/// The name in a slot.
+#[inline(always)]
+pub fn name_in(slot: &[u8; SLOT]) -> &[u8] {
+    &slot[1..1 + slot[0] as usize]
 }
 
 /// Octets of a slot: a length octet and 255 for a name.

@@ -1,6 +1,6 @@
-//! The plan table (01, The plan table): its check, the owner part, and where the records of a name stand.
+//! The plan table (01, The plan table; T-03): its check, the owner part, and where the records of a name stand.
 
-use super::names::{self, SLOT};
+use super::names::{self, same, unusual, SLOT, USUAL};
 
 /// Octets of a record.
 pub const RECORD: usize = 536;
@@ -119,22 +119,13 @@ static FACTORS: [u64; SLOT / 8] = {
     factors
 };
 
-/// Octets that are looked at of every slot; most names fit in them.
-const USUAL: usize = 32;
-
-/// The octets of a slot that may be set after the usual ones.
-#[inline(always)]
-fn unusual(slot: &[u8; SLOT]) -> &[u8] {
-    let end = (slot[0] as usize / 8 + 1) * 8;
-    &slot[USUAL..end.max(USUAL)]
-}
-
+/// A number of the name in a slot, equal for all its spellings.
 #[inline(always)]
 fn hash(slot: &[u8; SLOT]) -> u64 {
     let part = |octets: &[u8], factors: &[u64]| {
         let mut sum = 0_u64;
         for (word, factor) in octets.chunks_exact(8).zip(factors) {
-            let word = u64::from_le_bytes(word.try_into().expect("eight octets"));
+            let word = names::caseless(u64::from_le_bytes(word.try_into().expect("eight octets")));
             sum = sum.wrapping_add((word ^ word >> 32).wrapping_mul(*factor));
         }
         sum
@@ -144,12 +135,6 @@ fn hash(slot: &[u8; SLOT]) -> u64 {
         sum = sum.wrapping_add(part(unusual(slot), &FACTORS[USUAL / 8..]));
     }
     (sum ^ sum >> 29).wrapping_mul(0xff51_afd7_ed55_8ccd)
-}
-
-/// Two slots hold the same name.
-#[inline(always)]
-pub fn same(one: &[u8; SLOT], other: &[u8; SLOT]) -> bool {
-    one[..USUAL] == other[..USUAL] && unusual(one) == unusual(other)
 }
 
 /// Owners of DNAMEs met so far, by a hash: at each place the index of a record and one, and the other bits of its

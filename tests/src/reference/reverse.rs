@@ -1,21 +1,15 @@
-//! Reverse lookup (01, Reverse names): the walk from an address by DNAMEs.
+//! Reverse lookup (01, Reverse names; T-03): the walk from an address by DNAMEs.
 //!
-//! Names stay in standard form, so the labels of an owner stand at the end of a name beneath it octet for octet, all
-//! but the lowest where that is a bit label: its bits are then the first ones of the name's bit label at that place.
+//! Names stay in standard form, so the labels of an owner stand at the end of a name beneath it, letters in either case,
+//! all but the lowest where that is a bit label: its bits are then the first ones of the name's bit label at that place.
 
-use super::names::{bits_of, Bits, BIT_LABEL, NAME, RUN, SLOT};
+use super::names::{bits_of, name_in, same_labels, Bits, BIT_LABEL, NAME, RUN};
 use super::plan::{self, DNAME};
 
 /// Octets of a bit label with so many bits.
 #[inline(always)]
 fn size_of(bits: usize) -> usize {
     2 + bits.div_ceil(8)
-}
-
-/// The name in a slot.
-#[inline(always)]
-fn name_in(slot: &[u8; SLOT]) -> &[u8] {
-    &slot[1..1 + slot[0] as usize]
 }
 
 /// Bits in the bit label that a name begins with; 0 where it begins with another.
@@ -94,7 +88,7 @@ impl Name {
             return None;
         }
         let owner = name_in(plan::owner_of(plan::record(table, dname.record as usize)));
-        if owner[owner.len() - rest..] != self.octets[from..self.length] {
+        if !same_labels(&owner[owner.len() - rest..], &self.octets[from..self.length]) {
             return None;
         }
         if dname.bits == 0 {
