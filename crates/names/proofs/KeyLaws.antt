@@ -208,7 +208,7 @@ unfoldable pub keyLabel : Label → Label
 keyLabel (ordinary l) = ordinary (map lower l)
 keyLabel (bits b) = bits b
 
-key-before : (b : List ℕ) (us : List Unit) → keys (before b us) ≡ before b (keys us)
+pub key-before : (b : List ℕ) (us : List Unit) → keys (before b us) ≡ before b (keys us)
 unfolding before keyUnit
 key-before [] us = refl
 key-before (x ∷ b) us = key-before b (bit x ∷ us)

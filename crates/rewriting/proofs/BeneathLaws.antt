@@ -12,15 +12,17 @@ use Rattle.bits.specs.Bits.{octetsFor, unpack}
 use Rattle.octets.specs.Octets.{same, Small}
 use Rattle.labels.specs.Labels.{bits, countFor}
 use Rattle.labels.specs.Scan.{apart}
-use Rattle.names.specs.Standard.{Unit, label, bit, before, units, encode}
+use Rattle.names.specs.Standard.{Unit, label, bit, before, units, unitsOf, encode, keyUnit, keys}
+use Rattle.names.specs.Keys.{keyOctets}
 use Rattle.names.proofs.Written.{written}
-use Rattle.names.specs.Merge.{Begins, labelsFrom, labelsAt}
+use Rattle.names.specs.Merge.{Begins, labelsAt}
 use Rattle.octets.proofs.OctetLaws.{small-drop, nil-of-length}
 use Rattle.bits.proofs.BitLaws.{unpack-zero, unpack-length}
 use Rattle.octets.proofs.SameLaws.{same-eq, same-refl}
 use Rattle.names.proofs.WriteLaws.{written-back, encode-written}
 use Rattle.names.proofs.MergeLaws.{AtBits, at-bits, at-ordinary, begins-inside}
-use Rattle.names.proofs.RoundLaws.{before-append}
+use Rattle.names.proofs.RoundLaws.{before-append, fit-labels}
+use Rattle.names.proofs.KeyLaws.{key-before, keys-encode, keys-read}
 use Rattle.rewriting.specs.Spots.{unitsAt, NoBit, Parted, Found, Standing, Fronted}
 use Rattle.rewriting.specs.declared.inside.Spot.{Spot}
 use Rattle.rewriting.specs.declared.inside.Front.{Front}
@@ -29,34 +31,49 @@ use Rattle.rewriting.proofs.SpotLaws.{before-front, before-length, none
 use Rattle.rewriting.specs.Rewrite.{belowOf}
 use Rattle.rewriting.proofs.ApplyLaws.{below-yes, below-no}
 
--- the units from a place on, written out, are the octets from there on
-pub octets-back : (name : List ℕ) (at : ℕ) → Begins name at → Small name → Parted name at → drop at name ≡ encode (unitsAt name at)
-unfolding unitsAt
-octets-back name at b s a =
+-- the labels from a place on, written out, are the octets from there on
+octets-written : (name : List ℕ) (at : ℕ) → Begins name at → Small name → drop at name ≡ written (labelsAt name at)
+octets-written name at b s =
     let w = written-back (b .reads) (small-drop at name s) in
     let ls = labelsAt name at in
     let l = length-drop at name in
     let n : length (drop at name) ≡ length (written ls) + length (w .rest) = ap length (w .all) ∙ length-append (written ls) (w .rest) in
     let i = begins-inside name at b in
     let z : w .rest ≡ [] = nil-of-length (w .rest) (omega (arith, w .used-is)) in
-    w .all ∙ ap (λ (ys : List ℕ). written ls ++ ys) z ∙ append-nil (written ls) ∙ sym (encode-written ls a)
+    w .all ∙ ap (λ (ys : List ℕ). written ls ++ ys) z ∙ append-nil (written ls)
 
--- equal octets, equal units
-edge-yes : (name owner : List ℕ) (at from : ℕ) → same (drop at name) (drop from owner) ≡ true → unitsAt name at ≡ unitsAt owner from
+-- and so are the units
+pub octets-back : (name : List ℕ) (at : ℕ) → Begins name at → Small name → Parted name at → drop at name ≡ encode (unitsAt name at)
 unfolding unitsAt
-edge-yes name owner at from h = ap (λ (xs : List ℕ). units (labelsFrom 0 xs)) (same-eq (drop at name) (drop from owner) h)
+octets-back name at b s a = octets-written name at b s ∙ sym (encode-written (labelsAt name at) a)
+
+-- the keys of the octets from a place on are those of the units, written out and read back
+module _ (name : List ℕ) (at : ℕ) (b : Begins name at) (s : Small name) (a : Parted name at) where
+  tail-keys : keyOctets (drop at name) ≡ encode (keys (unitsAt name at))
+  unfolding unitsAt
+  tail-keys = ap keyOctets (octets-written name at b s) ∙ keys-encode (labelsAt name at) (fit-labels (b .reads)) a
+
+  tail-read : unitsOf (keyOctets (drop at name)) ≡ keys (unitsAt name at)
+  unfolding unitsAt
+  tail-read =
+      let w = octets-written name at b s in
+      let l : length (written (labelsAt name at)) ≤ 255 = omega (arith, ap length w, length-drop at name, b .short) in
+      ap (λ (xs : List ℕ). unitsOf (keyOctets xs)) w ∙ keys-read (labelsAt name at) (fit-labels (b .reads)) a l
 
 clash : true ≡ false → ⊥
 clash z = let y : _≡_ {A = ℕ} 0 1 = cc in omega arith
 
-edge-no : (name owner : List ℕ) (at from : ℕ) → Begins name at → Begins owner from → Small name → Small owner
-    → Parted name at → Parted owner from
-    → same (drop at name) (drop from owner) ≡ false → unitsAt name at ≡ unitsAt owner from → ⊥
-edge-no name owner at from b c s t p q h e =
-    let d : drop at name ≡ drop from owner = octets-back name at b s p ∙ ap encode e ∙ sym (octets-back owner from c t q) in
-    let r : same (drop at name) (drop from owner) ≡ true = ap (λ (ys : List ℕ). same ys (drop from owner)) d ∙ same-refl (drop from owner) in
-    let z : _≡_ {A = Bool} true false = sym r ∙ h in
-    clash z
+-- two names from a place on: their keys are the same exactly when those of their units are
+module _ (name owner : List ℕ) (at from : ℕ) (b : Begins name at) (c : Begins owner from) (s : Small name) (t : Small owner) (p : Parted name at) (q : Parted owner from) where
+  edge-yes : same (keyOctets (drop at name)) (keyOctets (drop from owner)) ≡ true → keys (unitsAt name at) ≡ keys (unitsAt owner from)
+  edge-yes h = sym (tail-read name at b s p) ∙ ap unitsOf (same-eq (keyOctets (drop at name)) (keyOctets (drop from owner)) h) ∙ tail-read owner from c t q
+
+  edge-no : same (keyOctets (drop at name)) (keyOctets (drop from owner)) ≡ false → keys (unitsAt name at) ≡ keys (unitsAt owner from) → ⊥
+  edge-no h e =
+      let d : keyOctets (drop at name) ≡ keyOctets (drop from owner) = tail-keys name at b s p ∙ ap encode e ∙ sym (tail-keys owner from c t q) in
+      let r : same (keyOctets (drop at name)) (keyOctets (drop from owner)) ≡ true = ap (λ (ys : List ℕ). same ys (keyOctets (drop from owner))) d ∙ same-refl (keyOctets (drop from owner)) in
+      let z : _≡_ {A = Bool} true false = sym r ∙ h in
+      clash z
 
 -- what is left after unit j
 found-left : (name : List ℕ) (j : ℕ) (r : Spot) → Found name j r → drop (j + 1) (unitsAt name 0) ≡ drop (r .left + 1) (unitsAt name (r .at))
@@ -148,6 +165,13 @@ run-same b c us vs n m e = (
   sym (lead-rest b us n) ∙ ap leadRest e ∙ lead-rest c vs m,
 )
 
+-- a bit is its own key
+no-bit-keys : (us : List Unit) → NoBit us → NoBit (keys us)
+unfolding keyUnit
+no-bit-keys [] n = n
+no-bit-keys (label l ∷ us) n = n
+no-bit-keys (bit b ∷ us) n = absurd n
+
 -- after the bit label that is cut no bit follows
 found-ends : (name : List ℕ) (j : ℕ) (r : Spot) → Found name j r → Standing name → (r .left + 1 ≡ r .units → ⊥) → NoBit (unitsAt name (r .end))
 unfolding unitsAt
@@ -220,25 +244,31 @@ module _ {name owner : List ℕ} {n m : ℕ} {r : Spot} (q : Meeting name owner 
   place : n - m - 1 + 1 ≡ length (unitsAt name 0) - length (unitsAt owner 0)
   place = let c = q .counts in omega arith
 
-  yes : drop (n - m - 1 + 1) (unitsAt name 0) ≡ unitsAt owner 0 → n - m ≡ under name owner
+  yes : keys (drop (n - m - 1 + 1) (unitsAt name 0)) ≡ keys (unitsAt owner 0) → n - m ≡ under name owner
   yes d =
       let c = q .counts in
       let e : n - m ≡ length (unitsAt name 0) - length (unitsAt owner 0) = omega arith in
       e ∙ sym (below-yes (unitsAt owner 0) (unitsAt name 0) (rw (← place) d))
 
-  no : (drop (n - m - 1 + 1) (unitsAt name 0) ≡ unitsAt owner 0 → ⊥) → 0 ≡ under name owner
+  no : (keys (drop (n - m - 1 + 1) (unitsAt name 0)) ≡ keys (unitsAt owner 0) → ⊥) → 0 ≡ under name owner
   no d = sym (below-no (unitsAt owner 0) (unitsAt name 0) (λ h. d (rw place h)))
 
   tail : Parted name (r .end)
   tail = found-parted name (n - m - 1) r (q .found) (q .standing .0)
 
-  pub edge-kept : r .left + 1 ≡ r .units → same (take (length name - r .end) (drop (r .end) name)) owner ≡ true → n - m ≡ under name owner
-  edge-kept e h = yes (found-edge name (n - m - 1) r (q .found) e ∙ edge-yes name owner (r .end) 0 (rw (part-whole name (r .end)) at h))
+  -- the owner's place is where a label ends: what is left of the name is compared
+  abbrev left : List ℕ
+  left = take (length name - r .end) (drop (r .end) name)
 
-  pub edge-none : r .left + 1 ≡ r .units → same (take (length name - r .end) (drop (r .end) name)) owner ≡ false → 0 ≡ under name owner
+  pub edge-kept : r .left + 1 ≡ r .units → same (keyOctets left) (keyOctets owner) ≡ true → n - m ≡ under name owner
+  edge-kept e h =
+      yes (ap keys (found-edge name (n - m - 1) r (q .found) e)
+      ∙ edge-yes name owner (r .end) 0 (q .found .turned .begins) (q .standing .1 .begins) (q .small .0) (q .small .1) tail (q .standing .1 .parted) (rw (part-whole name (r .end)) at h))
+
+  pub edge-none : r .left + 1 ≡ r .units → same (keyOctets left) (keyOctets owner) ≡ false → 0 ≡ under name owner
   edge-none e h =
       no (λ d. edge-no name owner (r .end) 0 (q .found .turned .begins) (q .standing .1 .begins) (q .small .0) (q .small .1) tail (q .standing .1 .parted)
-      (rw (part-whole name (r .end)) at h) (sym (found-edge name (n - m - 1) r (q .found) e) ∙ d))
+      (rw (part-whole name (r .end)) at h) (ap keys (sym (found-edge name (n - m - 1) r (q .found) e)) ∙ d))
 
 -- the owner's place is inside a label, and the bits that the owner begins with are known
 pub record Inside (name owner : List ℕ) (n m : ℕ) (r : Spot) (g : Front) : Type 0 where
@@ -255,11 +285,13 @@ module _ {name owner : List ℕ} {n m : ℕ} {r : Spot} {g : Front} (k : Inside 
   theirs = unpack (g .bits) (drop (g .from) owner)
 
   -- what is left of the name is the owner: then the bits are the same, and the rest
-  matched : drop (n - m - 1 + 1) (unitsAt name 0) ≡ unitsAt owner 0 → (mine ≡ theirs) × (unitsAt name (r .end) ≡ unitsAt owner (g .end))
+  matched : keys (drop (n - m - 1 + 1) (unitsAt name 0)) ≡ keys (unitsAt owner 0) → (mine ≡ theirs) × (keys (unitsAt name (r .end)) ≡ keys (unitsAt owner (g .end)))
   matched d =
       let f = k .met .found in
-      run-same mine theirs (unitsAt name (r .end)) (unitsAt owner (g .end)) (found-ends name (n - m - 1) r f (k .met .standing .0) (k .inner)) (k .fronted .ends)
-      (sym (found-inside name (n - m - 1) (r .units - (r .left + 1)) r f (k .inner) refl) ∙ d ∙ k .fronted .parts)
+      run-same mine theirs (keys (unitsAt name (r .end))) (keys (unitsAt owner (g .end)))
+      (no-bit-keys (unitsAt name (r .end)) (found-ends name (n - m - 1) r f (k .met .standing .0) (k .inner))) (no-bit-keys (unitsAt owner (g .end)) (k .fronted .ends))
+      (sym (key-before mine (unitsAt name (r .end))) ∙ ap keys (sym (found-inside name (n - m - 1) (r .units - (r .left + 1)) r f (k .inner) refl)) ∙ d
+      ∙ ap keys (k .fronted .parts) ∙ key-before theirs (unitsAt owner (g .end)))
 
   -- the bits that are left of the label lie within the name
   pub bits-within : r .at + 2 + octetsFor (r .units) ≤ length name
@@ -268,7 +300,7 @@ module _ {name owner : List ℕ} {n m : ℕ} {r : Spot} {g : Front} (k : Inside 
   pub inside-count : (r .left + 1 + g .bits ≡ r .units → ⊥) → 0 ≡ under name owner
   inside-count h = no (k .met) (λ d. h (go d))
     where
-      go : drop (n - m - 1 + 1) (unitsAt name 0) ≡ unitsAt owner 0 → r .left + 1 + g .bits ≡ r .units
+      go : keys (drop (n - m - 1 + 1) (unitsAt name 0)) ≡ keys (unitsAt owner 0) → r .left + 1 + g .bits ≡ r .units
       go d =
           let l = length-drop (r .at + 2) name in
           let b : length mine ≡ r .units - (r .left + 1) = unpack-length (r .units - (r .left + 1)) (drop (r .at + 2) name) (omega (arith, bits-within)) in
@@ -285,18 +317,24 @@ module _ {name owner : List ℕ} {n m : ℕ} {r : Spot} {g : Front} (k : Inside 
         let e : unpack (g .bits) (drop (r .at + 2) name) ≡ theirs = ap (λ (i : ℕ). unpack i (drop (r .at + 2) name)) (sym size) ∙ matched d .0 in
         clash (sym (ap (λ (ys : List ℕ). same ys theirs) e ∙ same-refl theirs) ∙ h))
 
-    pub inside-rest : same (take (length name - r .end) (drop (r .end) name)) (take (length owner - g .end) (drop (g .end) owner)) ≡ false → 0 ≡ under name owner
+    -- what is left of the owner after its bits
+    abbrev theirs-left : List ℕ
+    theirs-left = take (length owner - g .end) (drop (g .end) owner)
+
+    pub inside-rest : same (keyOctets (left (k .met))) (keyOctets theirs-left) ≡ false → 0 ≡ under name owner
     inside-rest h =
         let q = k .met in
         let w = k .fronted in
         no q (λ d. edge-no name owner (r .end) (g .end) (q .found .turned .begins) (w .begins) (q .small .0) (q .small .1) (tail q) (w .parted)
         (rw (part-whole name (r .end), part-whole owner (g .end)) at h) (matched d .1))
 
-    pub inside-kept : same (unpack (g .bits) (drop (r .at + 2) name)) theirs ≡ true
-        → same (take (length name - r .end) (drop (r .end) name)) (take (length owner - g .end) (drop (g .end) owner)) ≡ true → n - m ≡ under name owner
+    pub inside-kept : same (unpack (g .bits) (drop (r .at + 2) name)) theirs ≡ true → same (keyOctets (left (k .met))) (keyOctets theirs-left) ≡ true → n - m ≡ under name owner
     inside-kept h e =
-        let v = edge-yes name owner (r .end) (g .end) (rw (part-whole name (r .end), part-whole owner (g .end)) at e) in
+        let q = k .met in
+        let w = k .fronted in
+        let v = edge-yes name owner (r .end) (g .end) (q .found .turned .begins) (w .begins) (q .small .0) (q .small .1) (tail q) (w .parted)
+        (rw (part-whole name (r .end), part-whole owner (g .end)) at e) in
         let b = same-eq (unpack (g .bits) (drop (r .at + 2) name)) theirs h in
-        yes (k .met)
-        (found-inside name (n - m - 1) (g .bits) r (k .met .found) (k .inner) (sym size)
-        ∙ ap (λ (c : List ℕ). before c (unitsAt name (r .end))) b ∙ ap (before theirs) v ∙ sym (k .fronted .parts))
+        yes q
+        (ap keys (found-inside name (n - m - 1) (g .bits) r (q .found) (k .inner) (sym size) ∙ ap (λ (c : List ℕ). before c (unitsAt name (r .end))) b)
+        ∙ key-before theirs (unitsAt name (r .end)) ∙ ap (before theirs) v ∙ sym (key-before theirs (unitsAt owner (g .end))) ∙ ap keys (sym (w .parts)))

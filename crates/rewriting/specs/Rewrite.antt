@@ -1,4 +1,4 @@
--- One rewrite of a name by a DNAME, on units (01, Reverse names).
+-- One rewrite of a name by a DNAME, on units (01, Reverse names; T-03).
 use Prim.Native.Nat.{ℕ, suc, _-_, _<_}
 use mathlib.Core.Path.{_≡_}
 use mathlib.Core.Bool.{Bool, true, false, _||_}
@@ -6,11 +6,13 @@ use mathlib.Core.List.{List, [], _∷_, _++_}
 use lib.Dec.{ltb, eqb}
 use lib.ListN.{length, take, drop}
 use Rattle.octets.specs.Octets.{sameBy, same}
-use Rattle.names.specs.Standard.{Unit, label, bit, encode}
+use Rattle.names.specs.Standard.{Unit, label, bit, encode, keys}
 
--- a rule applies to each name that has units below the owner, `below`, one at least
+-- a rule applies to each name that has units below the owner, `below`, one at least: after them comes the owner, in any spelling
 pub record Applies (owner name below : List Unit) : Type 0 where
-  pub whole : name ≡ below ++ owner
+  pub rest : List Unit
+  pub whole : name ≡ below ++ rest
+  pub alike : keys rest ≡ keys owner
   pub strict : 0 < length below
 
 -- equal units: a bit is never an ordinary label
@@ -25,7 +27,7 @@ sameUnits = sameBy sameUnit
 
 -- how many units of the name are below the owner, counted: 0 where the rule does not apply
 unfoldable pub belowOf : List Unit → List Unit → ℕ
-belowOf owner name = elim (sameUnits (drop (length name - length owner) name) owner) [ true ↦ length name - length owner | false ↦ 0 ]
+belowOf owner name = elim (sameUnits (keys (drop (length name - length owner) name)) (keys owner)) [ true ↦ length name - length owner | false ↦ 0 ]
 
 -- what a rewrite makes of a name: its first units, as many as are below the owner, in their order, and then the units of the target
 unfoldable pub rewriteOf : ℕ → List Unit → List Unit → List Unit

@@ -157,7 +157,7 @@ pub fn beneath(name: &[u8], owner: &[u8]) -> usize
     let left = s.left;
     let units = s.units;
     if left + 1 == units {
-        if octets::equal(&name[end..], owner) {
+        if names::inside::same_key(&name[end..], owner) {
             return k;
         }
         return 0;
@@ -172,7 +172,7 @@ pub fn beneath(name: &[u8], owner: &[u8]) -> usize
     if !same_bits(name, at + 2, owner, from, bits) {
         return 0;
     }
-    if octets::equal(&name[end..], &owner[rest..]) {
+    if names::inside::same_key(&name[end..], &owner[rest..]) {
         return k;
     }
     0

@@ -3,9 +3,9 @@
 use super::names::{self, Name};
 use super::plan::{a6_record, any_ttls, dname_record, mix_case, name, usual_ttls, MOST, RECORD};
 use super::{a6, Random};
-use crate::plain::names::{same, whole};
+use crate::plain::names::{same, whole, Unit};
 
-/// A table and the names in it, owners and targets, each in one spelling or more.
+/// A table and the names in it, owners and targets, which the table may spell in other ways.
 #[derive(Default)]
 pub struct Tangle {
     pub table: Vec<u8>,
@@ -31,6 +31,20 @@ fn some_name(random: &mut Random, made: &mut Name) -> Vec<u8> {
         _ => return name(random.pick(&ALIKE)),
     }
     made.octets.clone()
+}
+
+/// Up to so many names, each of them once, in one of its spellings.
+fn some_names(random: &mut Random, made: &mut Name, number: usize, names: &mut Vec<Vec<u8>>) {
+    names.clear();
+    let mut known: Vec<Vec<Unit>> = Vec::new();
+    for _ in 0..number {
+        let name = some_name(random, made);
+        let units = whole(&name).expect("a name");
+        if !known.iter().any(|other| same(other, &units)) {
+            known.push(units);
+            names.push(name);
+        }
+    }
 }
 
 /// The values that the records of one table are made of: few, so that lengths are equal and addresses coincide.
@@ -73,23 +87,17 @@ fn some_address(random: &mut Random) -> u128 {
 pub fn tangle(random: &mut Random, made: &mut Name, most: usize, tangle: &mut Tangle) {
     let Tangle { table, names } = tangle;
     table.clear();
-    names.clear();
-    for _ in 0..random.pick(&[1, 1, 2, 2, 3, 3, 4, 5]) {
-        let name = some_name(random, made);
-        if !names.contains(&name) {
-            names.push(name);
-        }
-    }
+    let number = random.pick(&[1, 1, 2, 2, 3, 3, 4, 5]);
+    some_names(random, made, number, names);
     let palette = palette(random);
-    let mut renamed = Vec::new();
+    let mut renamed: Vec<Vec<u8>> = Vec::new();
     let few = random.once_in(3);
     let records = random.between(0, if few { most.min(5) } else { most });
     for _ in 0..records {
         let from = random.below(names.len());
         let owner = &names[from];
-        let units = whole(owner).expect("a name");
-        let record = if random.once_in(palette.dnames) && !renamed.iter().any(|other| same(other, &units)) {
-            renamed.push(units);
+        let record = if random.once_in(palette.dnames) && !renamed.contains(owner) {
+            renamed.push(owner.clone());
             dname_record(owner, &names[random.below(names.len())])
         } else if table.len() >= RECORD && random.once_in(6) {
             let other = random.below(table.len() / RECORD) * RECORD;
@@ -135,13 +143,8 @@ pub fn layers(random: &mut Random, made: &mut Name, most: usize, tangle: &mut Ta
     const LENGTHS: [u8; 6] = [100, 64, 48, 40, 32, 16];
     let Tangle { table, names } = tangle;
     table.clear();
-    names.clear();
-    for _ in 0..random.between(3, 5) {
-        let name = some_name(random, made);
-        if !names.contains(&name) {
-            names.push(name);
-        }
-    }
+    let number = random.between(3, 5);
+    some_names(random, made, number, names);
     for _ in 0..random.between(2, most) {
         let layer = random.below(names.len());
         let last = layer + 1 == names.len();

@@ -65,7 +65,10 @@ fn owner(random: &mut Random, units: &[Unit]) -> Vec<Unit> {
         let lowest = owner.len().min(9);
         match owner.get_mut(random.below(lowest + 1)) {
             Some(Unit::Bit(bit)) => *bit = !*bit,
-            Some(Unit::Label(label)) => label[0] ^= 0x20,
+            Some(Unit::Label(label)) => {
+                let at = random.below(label.len());
+                label[at] ^= random.pick(&[0x20, 1]);
+            }
             None => {}
         }
     }

@@ -29,7 +29,7 @@ begun c = c .before .before .before .before
 abbrev counted : Placed → Counted
 counted c = c .before .before
 
-abbrev at-edge : tie.After-equal → tie.Then2
+abbrev at-edge : tie.After-same-key → tie.Then2
 at-edge c = c .before .before
 
 abbrev placed : Inner → Placed
@@ -41,7 +41,7 @@ counted-inner c = counted (placed c)
 abbrev inner : tie.After-same-bits → Inner
 inner c = c .before .before
 
-abbrev compared : tie.After-equal2 → tie.Else5
+abbrev compared : tie.After-same-key2 → tie.Else5
 compared c = c .before .before .before
 
 -- ---- what is known at them
@@ -98,23 +98,23 @@ find-requires c κs = search needs
 add-if2 : tie.Need-add-if2
 add-if2 c = search needs
 
-sub-equal : tie.Need-sub-equal
-sub-equal c = let w = met-within (met (c .before)) in omega arith
+sub-same-key : tie.Need-sub-same-key
+sub-same-key c = let w = met-within (met (c .before)) in omega arith
 
-part-equal-start : tie.Need-part-equal-start
-part-equal-start c = let w = met-within (met (c .before)) in omega arith
+part-same-key-start : tie.Need-part-same-key-start
+part-same-key-start c = let w = met-within (met (c .before)) in omega arith
 
-part-equal-end : tie.Need-part-equal-end
-part-equal-end c = search needs
+part-same-key-end : tie.Need-part-same-key-end
+part-same-key-end c = search needs
 
-equal-requires : tie.Need-equal-requires
-equal-requires c κs = search needs
+same-key-requires : tie.Need-same-key-requires
+same-key-requires c κs = search needs
 
 returns-2 : tie.Need-returns-2
-returns-2 c = let e = at-edge (c .before) in edge-kept (met (e .before)) (e .if2 .taken) (sym (c .before .equal .ensures) ∙ c .if3 .taken)
+returns-2 c = let e = at-edge (c .before) in edge-kept (met (e .before)) (e .if2 .taken) (sym (c .before .same-key .ensures) ∙ c .if3 .taken)
 
 returns-3 : tie.Need-returns-3
-returns-3 c = let e = at-edge (c .before) in edge-none (met (e .before)) (e .if2 .taken) (sym (c .before .equal .ensures) ∙ c .if3 .left)
+returns-3 c = let e = at-edge (c .before) in edge-none (met (e .before)) (e .if2 .taken) (sym (c .before .same-key .ensures) ∙ c .if3 .left)
 
 leading-requires : tie.Need-leading-requires
 leading-requires c κs = search needs
@@ -142,35 +142,35 @@ returns-5 c =
     let s = c .before .same-bits in
     inside-bits (inside (inner (c .before))) (c .before .before .if4 .left) (sym (s .ensures) ∙ not-true (s .result) (c .if5 .taken))
 
-sub-equal-2 : tie.Need-sub-equal-2
-sub-equal-2 c = let w = met-within (met (placed (inner (c .before)))) in omega arith
+sub-same-key-2 : tie.Need-sub-same-key-2
+sub-same-key-2 c = let w = met-within (met (placed (inner (c .before)))) in omega arith
 
-part-equal-start-2 : tie.Need-part-equal-start-2
-part-equal-start-2 c = let w = met-within (met (placed (inner (c .before)))) in omega arith
+part-same-key-start-2 : tie.Need-part-same-key-start-2
+part-same-key-start-2 c = let w = met-within (met (placed (inner (c .before)))) in omega arith
 
-part-equal-end-2 : tie.Need-part-equal-end-2
-part-equal-end-2 c = search needs
+part-same-key-end-2 : tie.Need-part-same-key-end-2
+part-same-key-end-2 c = search needs
 
-sub-equal-3 : tie.Need-sub-equal-3
-sub-equal-3 c = omega (arith, owner-rest (inner (c .before .before)))
+sub-same-key-3 : tie.Need-sub-same-key-3
+sub-same-key-3 c = omega (arith, owner-rest (inner (c .before .before)))
 
-part-equal-start-3 : tie.Need-part-equal-start-3
-part-equal-start-3 c = omega (arith, owner-rest (inner (c .before .before)))
+part-same-key-start-3 : tie.Need-part-same-key-start-3
+part-same-key-start-3 c = omega (arith, owner-rest (inner (c .before .before)))
 
-part-equal-end-3 : tie.Need-part-equal-end-3
-part-equal-end-3 c = search needs
+part-same-key-end-3 : tie.Need-part-same-key-end-3
+part-same-key-end-3 c = search needs
 
-equal-requires-2 : tie.Need-equal-requires-2
-equal-requires-2 c κs = search needs
+same-key-requires-2 : tie.Need-same-key-requires-2
+same-key-requires-2 c κs = search needs
 
 returns-6 : tie.Need-returns-6
 returns-6 c =
     let e = compared (c .before) in
     let s = e .before .same-bits in
-    inside-kept (inside (inner (e .before))) (e .before .before .if4 .left) (sym (s .ensures) ∙ not-false (s .result) (e .if5 .left)) (sym (c .before .equal2 .ensures) ∙ c .if6 .taken)
+    inside-kept (inside (inner (e .before))) (e .before .before .if4 .left) (sym (s .ensures) ∙ not-false (s .result) (e .if5 .left)) (sym (c .before .same-key2 .ensures) ∙ c .if6 .taken)
 
 returns-7 : tie.Need-returns-7
-returns-7 c = let e = compared (c .before) in inside-rest (inside (inner (e .before))) (e .before .before .if4 .left) (sym (c .before .equal2 .ensures) ∙ c .if6 .left)
+returns-7 c = let e = compared (c .before) in inside-rest (inside (inner (e .before))) (e .before .before .if4 .left) (sym (c .before .same-key2 .ensures) ∙ c .if6 .left)
 
 pub beneath-spec : {M : Type 1} → statement M
 beneath-spec =
@@ -183,10 +183,10 @@ beneath-spec =
     sub-find
     find-requires
     add-if2
-    sub-equal
-    part-equal-start
-    part-equal-end
-    equal-requires
+    sub-same-key
+    part-same-key-start
+    part-same-key-end
+    same-key-requires
     returns-2
     returns-3
     leading-requires
@@ -196,12 +196,12 @@ beneath-spec =
     add-same-bits
     same-bits-requires
     returns-5
-    sub-equal-2
-    part-equal-start-2
-    part-equal-end-2
-    sub-equal-3
-    part-equal-start-3
-    part-equal-end-3
-    equal-requires-2
+    sub-same-key-2
+    part-same-key-start-2
+    part-same-key-end-2
+    sub-same-key-3
+    part-same-key-start-3
+    part-same-key-end-3
+    same-key-requires-2
     returns-6
     returns-7)
