@@ -7,7 +7,7 @@ use lib.ListN.{replicate}
 use Rattle.labels.specs.declared.Scanned.{Scanned}
 use Rattle.labels.specs.Scan.{scanOf}
 use Rattle.labels.specs.Answers.{scanned}
-use Rattle.names.specs.Standard.{standardOf}
+use Rattle.names.specs.Standard.{standardOf, sameName}
 use Rattle.names.proofs.Computing.{names-compute}
 
 -- RFC 2874: \[x0A0020FFFE812B32/64].\[x0009/16].\[x3FFE07C00040/48].IP6.ARPA
@@ -92,3 +92,42 @@ merges : map standardOf standards
     ≡ (65 ∷ 0 ∷ 128 ∷ zeros 31 ++ (0 ∷ [])) ∷ (65 ∷ 5 ∷ 104 ∷ 1 ∷ 97 ∷ 65 ∷ 1 ∷ 0 ∷ 0 ∷ []) ∷ (0 ∷ []) ∷ []
 unfolding names-compute standards zeros
 merges = refl
+
+-- T-03: two names, and whether they are the same
+record Pair : Type 0 where
+  one : List ℕ
+  other : List ℕ
+  same : Bool
+
+-- the name of one label of one octet
+letter : ℕ → List ℕ
+letter x = 1 ∷ x ∷ 0 ∷ []
+
+-- RFC 2874's name again, its ordinary labels in lower case
+respelt : List ℕ
+respelt = 65 ∷ 128 ∷ 0x3F ∷ 0xFE ∷ 0x07 ∷ 0xC0 ∷ 0x00 ∷ 0x40 ∷ 0x00 ∷ 0x09 ∷ 0x0A ∷ 0x00 ∷ 0x20 ∷ 0xFF ∷ 0xFE ∷ 0x81 ∷ 0x2B ∷ 0x32 ∷ 3 ∷ 105 ∷ 112 ∷ 54 ∷ 4 ∷ 97 ∷ 114 ∷ 112 ∷ 97 ∷ 0 ∷ []
+
+pairs : List Pair
+unfolding letter parts whole ip6arpa respelt zeros
+pairs =
+    record { one = letter 65; other = letter 97; same = true }
+    ∷ record { one = letter 90; other = letter 122; same = true }
+    ∷ record { one = parts; other = respelt; same = true }
+    -- the octets beside the letters, and those over 127
+    ∷ record { one = letter 64; other = letter 96; same = false }
+    ∷ record { one = letter 91; other = letter 123; same = false }
+    ∷ record { one = letter 65; other = letter 98; same = false }
+    ∷ record { one = letter 193; other = letter 225; same = false }
+    -- length octets apart by 32
+    ∷ record { one = letter 65; other = 33 ∷ replicate 33 65 ++ 0 ∷ []; same = false }
+    -- bits and count octets that look like letters; a letter and a bit
+    ∷ record { one = 65 ∷ 8 ∷ 65 ∷ 0 ∷ []; other = 65 ∷ 8 ∷ 97 ∷ 0 ∷ []; same = false }
+    ∷ record { one = 65 ∷ 65 ∷ zeros 9 ++ 0 ∷ []; other = 65 ∷ 97 ∷ zeros 13 ++ 0 ∷ []; same = false }
+    ∷ record { one = letter 65; other = 65 ∷ 1 ∷ 0 ∷ 0 ∷ []; same = false }
+    -- letters after a bit label count alike again
+    ∷ record { one = 65 ∷ 8 ∷ 65 ∷ 1 ∷ 65 ∷ 0 ∷ []; other = 65 ∷ 8 ∷ 65 ∷ 1 ∷ 97 ∷ 0 ∷ []; same = true }
+    ∷ []
+
+spellings : map (λ p. sameName (p .one) (p .other)) pairs ≡ map (λ p. p .same) pairs
+unfolding names-compute pairs letter parts whole ip6arpa respelt zeros
+spellings = refl

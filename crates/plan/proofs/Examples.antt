@@ -143,9 +143,13 @@ parts = refl
 long : ℕ → List ℕ
 long x = 40 ∷ replicate 39 97 ++ (x ∷ 0 ∷ [])
 
--- marks of slots, and slots that are alike: the same short name is, a long one is not even with itself
-marks : map markOf (slotOf root ∷ slotOf ha ∷ slotOf pa ∷ slotOf (long 1) ∷ slotOf (long 2) ∷ []) ≡ 52373 ∷ 15396 ∷ 37843 ∷ 20288 ∷ 20068 ∷ []
-unfolding markOf slotOf root long blank
+-- h.a in capitals
+capitals : List ℕ
+capitals = 1 ∷ 72 ∷ 1 ∷ 65 ∷ 0 ∷ []
+
+-- marks of slots, the same for h.a in either case; and slots that are alike: the same short name is, a long one is not even with itself
+marks : map markOf (slotOf root ∷ slotOf ha ∷ slotOf capitals ∷ slotOf pa ∷ slotOf (long 1) ∷ slotOf (long 2) ∷ []) ≡ 52373 ∷ 52614 ∷ 52614 ∷ 9522 ∷ 851 ∷ 631 ∷ []
+unfolding markOf slotOf root capitals long blank
 marks = refl
 
 alikes : alikeOf (slotOf ha) (slotOf ha) ∷ alikeOf (slotOf ha) (slotOf pa) ∷ alikeOf (slotOf (long 1)) (slotOf (long 2)) ∷ alikeOf (slotOf (long 1)) (slotOf (long 1)) ∷ []

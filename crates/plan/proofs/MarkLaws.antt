@@ -1,30 +1,27 @@
 -- Laws of marks: slots of the same name have the same mark.
-use Prim.Native.Nat.{ℕ, zero, suc, _+_, _*_, _^_, _≤_, _<_}
+use Prim.Native.Nat.{ℕ, zero, suc, _+_, _-_, _*_, _/_, _%_, _^_, _≤_, _<_}
 use mathlib.Core.Path.{_≡_, refl, ap, _∙_, sym}
 use mathlib.Core.Bool.{Bool, true, false}
-use mathlib.Core.List.{List, [], _∷_}
-use lib.Dec.{eqb}
-use lib.ListN.{length, getD, take, drop, set, drop-of-length-le}
+use mathlib.Core.List.{List, [], _∷_, map, map-append}
+use mathlib.Core.Logic.{⊎-elim}
+use lib.Dec.{ltb, eqb}
+use lib.ListN.{length, getD, take, drop, set, drop-of-length-le, length-map, List·getD-map}
 use lib.Seq.{drop-cons, getD-set-same, getD-set-other, getD-take}
 use native.Mathlib.Omega.{arith}
-use native.Mathlib.Nat.{mul-le-mul}
+use native.Mathlib.Nat.{zero-add, mul-le-mul}
 use native.Mathlib.Numerals.{add-one}
-use borrow.Author.Tests.{lt-ltb, le-ltb, eq-eqb, ne-eqb, eqb-true, eqb-false}
-use Rattle.octets.proofs.SameLaws.{same-eq}
-use Rattle.names.specs.Standard.{sameName}
-use Rattle.names.proofs.StandardLaws.{same-octets}
-use Rattle.plan.specs.Layout.{nameIn, slotOf, ownerSlot, isDname, recordAt, ownerAt}
+use borrow.Author.Tests.{lt-ltb, le-ltb, ltb-true, ltb-false, eq-eqb, ne-eqb, eqb-true, eqb-false}
+use Rattle.octets.specs.Octets.{blank}
+use Rattle.names.specs.Standard.{lower, sameName}
+use Rattle.names.proofs.LowerLaws.{lower-ways}
+use Rattle.names.proofs.KeyLaws.{same-lowered}
+use Rattle.plan.specs.Layout.{nameRoom, nameIn, slotOf, ownerSlot, isDname, recordAt, ownerAt}
 use Rattle.plan.specs.First.{some}
 use Rattle.plan.specs.Check.{twin, repeats}
 use Rattle.plan.specs.Good.{Holds}
 use Rattle.plan.specs.Marks.{termAt, sumTo, sumOf, markOf, markAt, Marked, Ready, among}
 use Rattle.plan.proofs.FirstLaws.{none-first, none-some}
 use Rattle.plan.proofs.OrderLaws.{sound-good}
-
--- Theorem: slots of the same name have the same mark, since a slot that holds a name is determined by it; the one law that ties marks to the equality
--- of names
-pub same-mark : (s s′ : List ℕ) → Holds s → Holds s′ → sameName (nameIn s) (nameIn s′) ≡ true → markOf s ≡ markOf s′
-same-mark s s′ p q h = ap markOf (p .whole ∙ ap slotOf (same-eq (nameIn s) (nameIn s′) (same-octets (nameIn s) (nameIn s′) (p .name) (q .name) ∙ h)) ∙ sym (q .whole))
 
 -- a word and its factor fit
 pub term-fits : (w k : ℕ) → w < 4294967296 → k < 64 → w * (52361 + k * 7919) < 2 ^ 52
@@ -41,7 +38,7 @@ module _ (s : List ℕ) where
   pub sum-eight : {t0 t1 t2 t3 t4 t5 t6 t7 : ℕ} → t0 ≡ termAt s 0 → t1 ≡ termAt s 1 → t2 ≡ termAt s 2 → t3 ≡ termAt s 3 → t4 ≡ termAt s 4 → t5 ≡ termAt s 5
       → t6 ≡ termAt s 6 → t7 ≡ termAt s 7 → t0 + t1 + t2 + t3 + t4 + t5 + t6 + t7 ≡ sumTo s 8
   unfolding sumTo
-  sum-eight e0 e1 e2 e3 e4 e5 e6 e7 = omega (arith, e0, e1, e2, e3, e4, e5, e6, e7)
+  sum-eight e0 e1 e2 e3 e4 e5 e6 e7 = rw (e0, e1, e2, e3, e4, e5, e6, e7, zero-add (termAt s 0))
 
   pub sum-short : getD s 0 0 < 32 → sumOf s ≡ sumTo s 8
   unfolding sumOf
@@ -50,6 +47,53 @@ module _ (s : List ℕ) where
   pub sum-long : 32 ≤ getD s 0 0 → sumOf s ≡ sumTo s 64
   unfolding sumOf
   sum-long h = rw (sumOf, le-ltb (getD s 0 0) 32 h)
+
+-- slots with the same first octet, and all octets the same modulo 32, have the same mark
+module _ (s s′ : List ℕ) (e : getD s 0 0 ≡ getD s′ 0 0) (h : (i : ℕ) → getD s i 0 % 32 ≡ getD s′ i 0 % 32) where
+  mod-term : (k : ℕ) → termAt s k ≡ termAt s′ k
+  unfolding termAt
+  mod-term k = let i = k * 4 in rw (h i, h (i + 1), h (i + 2), h (i + 3))
+
+  mod-sum : (k : ℕ) → sumTo s k ≡ sumTo s′ k
+  unfolding sumTo
+  mod-sum zero = refl
+  mod-sum (suc k) = rw (mod-sum k, mod-term k)
+
+  mod-mark : markOf s ≡ markOf s′
+  unfolding markOf
+  mod-mark = ap (λ (n : ℕ). (n / 4096 + n / 16777216 * 3 + n) % 65536) (go (ltb (getD s 0 0) 32) refl)
+    where
+      go : (t : Bool) → ltb (getD s 0 0) 32 ≡ t → sumOf s ≡ sumOf s′
+      go true d = let l = ltb-true (getD s 0 0) 32 d in sum-short s l ∙ mod-sum 8 ∙ sym (sum-short s′ (omega arith))
+      go false d = let l = ltb-false (getD s 0 0) 32 d in sum-long s l ∙ mod-sum 64 ∙ sym (sum-long s′ (omega arith))
+
+-- a letter is the same modulo 32 in either case
+lower-mod : (x : ℕ) → lower x % 32 ≡ x % 32
+lower-mod x = ⊎-elim (λ e. ap (λ (y : ℕ). y % 32) e) (λ e. omega (arith, e .2)) (lower-ways x)
+
+-- octets that are the same in lower case are the same modulo 32
+lowered-mod : (xs ys : List ℕ) → map lower xs ≡ map lower ys → (i : ℕ) → getD xs i 0 % 32 ≡ getD ys i 0 % 32
+lowered-mod xs ys h i =
+    let e : lower (getD xs i 0) ≡ lower (getD ys i 0) = sym (List·getD-map lower xs i 0) ∙ ap (λ (l : List ℕ). getD l i (lower 0)) h ∙ List·getD-map lower ys i 0 in
+    sym (lower-mod (getD xs i 0)) ∙ ap (λ (x : ℕ). x % 32) e ∙ lower-mod (getD ys i 0)
+
+-- names that are the same in lower case: so are their lengths, their slots in lower case, and their marks
+module _ (m n : List ℕ) (h : map lower m ≡ map lower n) where
+  lowered-length : length m ≡ length n
+  lowered-length = sym (length-map m lower) ∙ ap length h ∙ length-map n lower
+
+  lowered-slot : map lower (slotOf m) ≡ map lower (slotOf n)
+  unfolding slotOf
+  lowered-slot = rw (map-append lower m (blank (nameRoom - length m)), map-append lower n (blank (nameRoom - length n)), h, lowered-length)
+
+  slot-mark : markOf (slotOf m) ≡ markOf (slotOf n)
+  unfolding slotOf
+  slot-mark = mod-mark (slotOf m) (slotOf n) lowered-length (lowered-mod (slotOf m) (slotOf n) lowered-slot)
+
+-- Theorem: slots of the same name have the same mark; the one law that ties marks to the equality of names
+pub same-mark : (s s′ : List ℕ) → Holds s → Holds s′ → sameName (nameIn s) (nameIn s′) ≡ true → markOf s ≡ markOf s′
+same-mark s s′ p q h =
+    ap markOf (p .whole) ∙ slot-mark (nameIn s) (nameIn s′) (same-lowered (nameIn s) (nameIn s′) (p .name) (q .name) h) ∙ sym (ap markOf (q .whole))
 
 -- the turns of the loop that looks for a mark
 module _ (m : ℕ) (marks : List ℕ) (i : ℕ) where

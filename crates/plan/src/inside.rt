@@ -11,7 +11,7 @@ ghost use Rattle.plan.specs.Layout.{recordSize, maxRecords, ownerPlace, 
 ghost use Rattle.plan.specs.Records.{typeAt};
 ghost use Rattle.names.specs.Name.{heldOf};
 ghost use Rattle.plan.specs.Check.{targetless, entryNumber};
-ghost use Rattle.plan.specs.Marks.{wordAt, pairAt, termAt, sumTo, sumOf, markOf, alikeOf};
+ghost use Rattle.plan.specs.Marks.{wordAt, pairAt, maskedAt, termAt, sumTo, sumOf, markOf, alikeOf};
 ghost use Rattle.plan.specs.Part.{ownerWithin};
 use crate::Part;
 
@@ -31,6 +31,9 @@ const TTL: usize = 532;
 pub const A6: u16 = 38;
 
 pub const DNAME: u16 = 39;
+
+// The five low bits of each octet of a word: those of a letter are the same in either case (T-03).
+const CASELESS: usize = 0x1F1F1F1F;
 
 // What a table and a given name earn together, and the name in standard form, none where it is malformed.
 pub struct Entered {
@@ -349,7 +352,15 @@ fn term(slot: &[u8], k: usize) -> usize
     requires { ⌜ (length (now slot) ≡ slotSize) × (k < 64) ⌝ }
     ensures { λ r. ⌜ (r ≡ termAt (now (slot .entry)) k) × (r < 2 ^ 52) ⌝ }
 {
-    word(slot, k * 4) * (52361 + k * 7919)
+    masked(slot, k * 4) * (52361 + k * 7919)
+}
+
+// The four octets from a place on as one number, each modulo 32, by one mask on the word.
+fn masked(slot: &[u8], i: usize) -> usize
+    requires { ⌜ i + 4 ≤ length (now slot) ⌝ }
+    ensures { λ r. ⌜ (r ≡ maskedAt (now (slot .entry)) i) × (r < 4294967296) ⌝ }
+{
+    word(slot, i) & CASELESS
 }
 
 // The eight octets from a place on as one number, the lowest first.

@@ -5,13 +5,14 @@ use mathlib.Core.Bool.{Bool, true, false}
 use mathlib.Core.List.{List, [], _∷_, _++_}
 use mathlib.Core.Logic.{_⊎_, inl, inr, ⊎-elim}
 use lib.Dec.{ltb}
-use lib.ListN.{length, drop}
+use lib.ListN.{length}
 use native.Mathlib.Omega.{arith}
 use native.Mathlib.Numerals.{add-one}
 use borrow.Author.Tests.{lt-ltb, le-ltb}
 use Rattle.names.specs.Standard.{Unit, unitsOf}
 use Rattle.plan.specs.Layout.{isDname, countOf, recordAt, ownerAt, targetAt}
-use Rattle.rewriting.specs.Rewrite.{belowOf, sameUnits}
+use Rattle.rewriting.specs.Rewrite.{belowOf}
+use Rattle.rewriting.proofs.ApplyLaws.{below-most}
 use Rattle.reverse.specs.Walk.{Rule, Due, none, due, better, dueFrom, dueOf}
 use Rattle.rewriting.specs.Spots.{unitsAt}
 use Rattle.chains.specs.Lists.{upTo}
@@ -24,14 +25,6 @@ due-snoc : (first : Due) (rules : List Rule) (r : Rule) (name : List Unit) → d
 unfolding dueFrom
 due-snoc first [] r name = refl
 due-snoc first (s ∷ rules) r name = due-snoc (better first (belowOf (s .owner) name) (s .target)) rules r name
-
-below-most : (owner name : List Unit) → belowOf owner name ≤ length name
-unfolding belowOf
-below-most owner name = go (sameUnits (drop (length name - length owner) name) owner) refl
-  where
-    go : (b : Bool) → sameUnits (drop (length name - length owner) name) owner ≡ b → belowOf owner name ≤ length name
-    go true e = rw (belowOf, e) (omega arith)
-    go false e = rw (belowOf, e) (omega arith)
 
 -- the code's choice between two, branch by branch
 module _ (index i : ℕ) where

@@ -5,28 +5,35 @@ use mathlib.Core.Bool.{Bool, true, false}
 use mathlib.Core.List.{List, [], _∷_, _++_}
 use mathlib.Core.Logic.{_⊎_, inl, inr, ⊎-elim}
 use lib.Dec.{ltb}
-use lib.ListN.{length, take, drop, length-append}
+use lib.ListN.{length, take, drop}
 use lib.Seq.{take-at, drop-at}
 use native.Mathlib.Omega.{arith}
 use borrow.Author.Tests.{ltb-true, ltb-false}
-use Rattle.names.specs.Standard.{Unit}
+use Rattle.names.specs.Standard.{Unit, keys}
 use Rattle.chains.specs.Lists.{In}
 use Rattle.rewriting.specs.Rewrite.{Applies, belowOf, rewriteOf}
 use Rattle.reverse.specs.Walk.{Rule, Due, none, due, better, dueFrom, dueOf}
 use Rattle.reverse.specs.Relation.{Settled, Rewrites}
-use Rattle.rewriting.proofs.ApplyLaws.{applies-below, below-applies, below-none}
+use Rattle.rewriting.proofs.ApplyLaws.{applies-length, applies-below, below-applies, below-none}
 
--- rules with one owner are one rule: two DNAMEs never share an owner (01, The plan table)
+-- rules with one owner, in any spelling, are one rule: two DNAMEs never share an owner (01, The plan table)
 abbrev pub OneTarget : List Rule → Type 0
-OneTarget rules = (r s : Rule) → In r rules → In s rules → r .owner ≡ s .owner → r ≡ s
+OneTarget rules = (r s : Rule) → In r rules → In s rules → keys (r .owner) ≡ keys (s .owner) → r ≡ s
 
--- Theorem: two rules that apply and have as many units in their owners have the same owner
-pub no-tie : (o p name b c : List Unit) → Applies o name b → Applies p name c → length o ≡ length p → o ≡ p
+-- what is below two rules' owners is the same where the owners have as many units, and so is the rest of the name
+same-parts : (b c u v : List Unit) → b ++ u ≡ c ++ v → length b ≡ length c → (b ≡ c) × (u ≡ v)
+same-parts b c u v e l = (
+  sym (take-at b u (length b) refl) ∙ ap (take (length b)) e ∙ take-at c v (length b) (sym l),
+  sym (drop-at b u (length b) refl) ∙ ap (drop (length b)) e ∙ drop-at c v (length b) (sym l),
+)
+
+-- Theorem: two rules that apply and have as many units in their owners have the same owner, and the same units below it
+pub no-tie : (o p name b c : List Unit) → Applies o name b → Applies p name c → length o ≡ length p → (keys o ≡ keys p) × (b ≡ c)
 no-tie o p name b c f g e =
-    let m = ap length (f .whole) ∙ length-append b o in
-    let n = ap length (g .whole) ∙ length-append c p in
-    let l : length c ≡ length b = omega arith in
-    sym (drop-at b o (length b) refl) ∙ ap (λ (us : List Unit). drop (length b) us) (sym (f .whole) ∙ g .whole) ∙ drop-at c p (length b) l
+    let m = applies-length o name b f in
+    let n = applies-length p name c g in
+    let q = same-parts b c (f .rest) (g .rest) (sym (f .whole) ∙ g .whole) (omega arith) in
+    (sym (f .alike) ∙ ap keys (q .1) ∙ g .alike, q .0)
 
 -- a rewrite is at least as good as one that keeps b units, 0 for a rule that does not apply
 abbrev AsGood : Due → ℕ → Type 0
@@ -115,7 +122,7 @@ due-some rules name k t e = ⊎-elim (λ q. clash k t (sym q ∙ e)) go (due-com
         let u : t ≡ c .rule .target = cc in
         let a = below-applies o name (c .some) in
         let l = applies-below o name (take (belowOf o name) name) a in
-        let w = ap length (a .whole) ∙ length-append (take (belowOf o name) name) o in
+        let w = applies-length o name (take (belowOf o name) name) a in
         record {
           rule = c .rule;
           listed = c .listed;
@@ -124,7 +131,7 @@ due-some rules name k t e = ⊎-elim (λ q. clash k t (sym q ∙ e)) go (due-com
           most = λ r i under b.
               let m = applies-below (r .owner) name under b in
               let g : (belowOf (r .owner) name ≡ 0) ⊎ (k ≤ belowOf (r .owner) name) = rw e at (due-all none rules name r i) in
-              let v = ap length (b .whole) ∙ length-append under (r .owner) in
+              let v = applies-length (r .owner) name under b in
               ⊎-elim (λ z. absurd (below-none (r .owner) name under z b)) (λ h. omega arith) g;
           result = rw (n, u);
         }
@@ -135,12 +142,8 @@ one-rewrite rules one name m n f g =
     let p = f .most (g .rule) (g .listed) (g .below) (g .applies) in
     let q = g .most (f .rule) (f .listed) (f .below) (f .applies) in
     let o = no-tie (f .rule .owner) (g .rule .owner) name (f .below) (g .below) (f .applies) (g .applies) (omega arith) in
-    let r : f .rule ≡ g .rule = one (f .rule) (g .rule) (f .listed) (g .listed) o in
-    let v = ap length (f .applies .whole) ∙ length-append (f .below) (f .rule .owner) in
-    let w = ap length (g .applies .whole) ∙ length-append (g .below) (g .rule .owner) in
-    let l : length (g .below) ≡ length (f .below) = omega arith in
-    let b : f .below ≡ g .below = sym (take-at (f .below) (f .rule .owner) (length (f .below)) refl) ∙ ap (take (length (f .below))) (sym (f .applies .whole) ∙ g .applies .whole) ∙ take-at (g .below) (g .rule .owner) (length (f .below)) l in
-    f .result ∙ ap (λ (us : List Unit). us ++ f .rule .target) b ∙ ap (λ (s : Rule). g .below ++ s .target) r ∙ sym (g .result)
+    let r : f .rule ≡ g .rule = one (f .rule) (g .rule) (f .listed) (g .listed) (o .0) in
+    f .result ∙ ap (λ (us : List Unit). us ++ f .rule .target) (o .1) ∙ ap (λ (s : Rule). g .below ++ s .target) r ∙ sym (g .result)
 
 -- what the relation says of the rewrite that is due
 pub settled-none : (rules : List Rule) (name : List Unit) → Settled rules name → dueOf rules name ≡ none

@@ -8,8 +8,8 @@ use lib.Dec.{eqb}
 use native.Mathlib.Omega.{arith}
 use borrow.Author.Tests.{ne-eqb, eqb-true, eqb-false}
 use Rattle.octets.specs.Octets.{Small}
-use Rattle.names.specs.Standard.{unitsOf, inStandardForm}
-use Rattle.names.proofs.RoundLaws.{units-same}
+use Rattle.names.specs.Standard.{unitsOf, keys, inStandardForm}
+use Rattle.names.proofs.KeyLaws.{keys-same}
 use Rattle.names.proofs.StandardLaws.{same-same-name}
 use Rattle.plan.specs.Layout.{typeOf, ownerSlot, targetSlot, isDname, a6, dname, countOf, recordAt, ownerAt, targetAt, isType}
 use Rattle.plan.specs.Records.{typeAt}
@@ -86,7 +86,7 @@ rule-source t (suc n) r i = go (isDname (recordAt t n)) refl (λ j. rule-source 
 
 -- DNAMEs with one owner are one record
 module _ (t : List ℕ) (o : InOrder t) where
-  one-index : (i j : ℕ) → i < countOf t → j < countOf t → isDname (recordAt t i) ≡ true → isDname (recordAt t j) ≡ true → unitsOf (ownerAt t i) ≡ unitsOf (ownerAt t j) → i ≡ j
+  one-index : (i j : ℕ) → i < countOf t → j < countOf t → isDname (recordAt t i) ≡ true → isDname (recordAt t j) ≡ true → keys (unitsOf (ownerAt t i)) ≡ keys (unitsOf (ownerAt t j)) → i ≡ j
   unfolding isType
   one-index i j p q d e u = go (eqb i j) refl
     where
@@ -94,7 +94,7 @@ module _ (t : List ℕ) (o : InOrder t) where
       go true h = eqb-true i j h
       go false h =
           let f = order-differ t o i j p q (eqb-false i j h) (eqb-true (typeAt t i) dname d) (eqb-true (typeAt t j) dname e) in
-          let s = same-same-name (ownerAt t i) (ownerAt t j) (units-same (ownerAt t i) (ownerAt t j) u) in
+          let s = same-same-name (ownerAt t i) (ownerAt t j) (keys-same (ownerAt t i) (ownerAt t j) u) in
           let z : true ≡ false = sym s ∙ f in
           let y : _≡_ {A = ℕ} 0 1 = cc in
           let x : ⊥ = omega arith in
@@ -105,6 +105,6 @@ module _ (t : List ℕ) (o : InOrder t) where
   rules-one r s i j e =
       let f = rule-source t (countOf t) r i in
       let g = rule-source t (countOf t) s j in
-      let u : unitsOf (ownerAt t (f .index)) ≡ unitsOf (ownerAt t (g .index)) = sym (ap (λ (q : Rule). q .owner) (f .is)) ∙ e ∙ ap (λ (q : Rule). q .owner) (g .is) in
+      let u : keys (unitsOf (ownerAt t (f .index))) ≡ keys (unitsOf (ownerAt t (g .index))) = sym (ap (λ (q : Rule). keys (q .owner)) (f .is)) ∙ e ∙ ap (λ (q : Rule). keys (q .owner)) (g .is) in
       let n = one-index (f .index) (g .index) (f .below) (g .below) (f .dname) (g .dname) u in
       f .is ∙ ap (λ (k : ℕ). ruleOf (recordAt t k)) n ∙ sym (g .is)
