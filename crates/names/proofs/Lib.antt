@@ -6,6 +6,7 @@ pub mod StandardLaws
 pub mod StandardSmall
 pub mod LowerLaws
 pub mod KeyLaws
+pub mod SameKeyLaws
 pub mod AnswerLaws
 pub mod FrontLaws
 pub mod NameLaws

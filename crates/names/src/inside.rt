@@ -1,15 +1,15 @@
 // What only our own layers call: the standard form of a name that was scanned, and names in standard form compared (01, Names; T-03).
 ghost use mathlib.Core.Path.{_≡_};
 ghost use mathlib.Core.Bool.{true};
-ghost use mathlib.Core.List.{_++_};
+ghost use mathlib.Core.List.{_++_, map};
 ghost use Prim.Native.Nat.{_+_, _-_, _≤_, _<_};
-ghost use lib.ListN.{length, getD, drop};
+ghost use lib.ListN.{length, getD, take, drop};
 ghost use Rattle.octets.specs.Octets.{blank, same};
 ghost use Rattle.bits.specs.Bits.{octetsFor};
 ghost use Rattle.labels.specs.Labels.{countFor};
 ghost use Rattle.labels.specs.Scan.{scanOf, wellFormed};
 ghost use Rattle.names.specs.Standard.{standardOf, lower, sameName, inStandardForm};
-ghost use Rattle.names.specs.Keys.{octetKey, afterOf, keyOctets};
+ghost use Rattle.names.specs.Keys.{keyOctets, walked};
 ghost use Rattle.labels.specs.Answers.{scanned};
 
 // The standard form of a well-formed name over zeros, and its length; `standard` is what a scan says of the name.
@@ -59,47 +59,7 @@ fn respelt(a: &[u8], b: &[u8], i: usize) -> bool
     if lowered(a[i]) != lowered(b[i]) {
         return false;
     }
-    same_labels(a, b)
-}
-
-// What is left of a label: so many octets, of an ordinary label if `letters`.
-pub struct Rest {
-    pub left: usize,
-    pub letters: bool,
-}
-
-// The same by a walk over the labels.
-fn same_labels(a: &[u8], b: &[u8]) -> bool
-    requires { ⌜ length (now a) ≡ length (now b) ⌝ }
-    ensures { λ r. ⌜ r ≡ same (keyOctets (now (a .entry))) (keyOctets (now (b .entry))) ⌝ }
-{
-    let n = a.len();
-    let mut w = Rest {
-        left: 0,
-        letters: false,
-    };
-    let mut i: usize = 0;
-    while i < n {
-        if octet_key(w, a[i]) != octet_key(w, b[i]) {
-            return false;
-        }
-        w = after(w, a, i);
-        i += 1;
-    }
-    true
-}
-
-// The key of an octet: letters count alike in an ordinary label after its length octet.
-fn octet_key(w: Rest, x: u8) -> u8
-    ensures { λ r. ⌜ r ≡ octetKey w x ⌝ }
-{
-    if w.left == 0 {
-        return x;
-    }
-    if w.letters {
-        return lowered(x);
-    }
-    x
+    same_labels(a, b, 0)
 }
 
 // A letter from A to Z as the one from a to z; every other octet as it is.
@@ -115,38 +75,68 @@ fn lowered(x: u8) -> u8
     x + 32
 }
 
-// What is left of the label after the octet at i.
-fn after(w: Rest, name: &[u8], i: usize) -> Rest
-    requires { ⌜ i < length (now name) ⌝ }
-    ensures { λ r. ⌜ r ≡ afterOf w (drop i (now (name .entry))) ⌝ }
+// Whether all octets are the same in lower case, and the labels from `at` on have the same keys. At the end of the name the octets are compared as if
+// all were letters; what is no letter is compared label by label. The labels above a bit label come before its bits: as a function that does not end in
+// its own call this one stays apart from its callers, and they stay short.
+fn same_labels(a: &[u8], b: &[u8], at: usize) -> bool
+    requires { ⌜ length (now a) ≡ length (now b) ⌝ }
+    ensures { λ r. ⌜ r ≡ walked (now (a .entry)) (now (b .entry)) at ⌝ }
 {
-    let left = w.left;
-    let letters = w.letters;
-    if 0 < left {
-        return Rest {
-            left: left - 1,
-            letters,
-        };
+    let n = a.len();
+    if n <= at {
+        return same_lowered(a, b);
     }
-    let x = name[i];
+    let x = a[at];
+    if x != b[at] {
+        return false;
+    }
+    let from = at + 1;
     if x != 65 {
-        return Rest {
-            left: octets::wide(x),
-            letters: true,
-        };
+        return same_labels(a, b, from + octets::wide(x));
     }
-    Rest {
-        left: bit_octets(name, i + 1),
-        letters: false,
+    let size = bit_octets(a, from);
+    if !same_labels(a, b, from + size) {
+        return false;
     }
+    same_part(a, b, from, size)
+}
+
+// Whether all octets are the same in lower case. Every one is looked at, which is faster than to stop at the first.
+fn same_lowered(a: &[u8], b: &[u8]) -> bool
+    requires { ⌜ length (now a) ≡ length (now b) ⌝ }
+    ensures { λ r. ⌜ r ≡ same (map lower (now (a .entry))) (map lower (now (b .entry))) ⌝ }
+{
+    let n = a.len();
+    let mut alike = true;
+    let mut i: usize = 0;
+    while i < n {
+        if lowered(a[i]) != lowered(b[i]) {
+            alike = false;
+        }
+        i += 1;
+    }
+    alike
 }
 
 // The octets of a bit label from its count octet on, which stands at i; one that is missing counts as zero.
 fn bit_octets(name: &[u8], i: usize) -> usize
-    ensures { λ r. ⌜ r ≡ 1 + octetsFor (countFor (getD (now (name .entry)) i 0)) ⌝ }
+    ensures { λ r. ⌜ (r ≡ 1 + octetsFor (countFor (getD (now (name .entry)) i 0))) × (r ≤ 33) ⌝ }
 {
     if name.len() <= i {
         return 33;
     }
     1 + (labels::inside::count(name[i]) + 7) / 8
+}
+
+// Whether so many octets from a place on are the same; as many as there are where they are fewer.
+fn same_part(a: &[u8], b: &[u8], i: usize, size: usize) -> bool
+    requires { ⌜ (length (now a) ≡ length (now b)) × (i ≤ length (now a)) × (size ≤ 33) ⌝ }
+    ensures { λ r. ⌜ r ≡ same (take size (drop i (now (a .entry)))) (take size (drop i (now (b .entry)))) ⌝ }
+{
+    let n = a.len();
+    let e = i + size;
+    if e <= n {
+        return octets::equal(&a[i..e], &b[i..e]);
+    }
+    octets::equal(&a[i..], &b[i..])
 }

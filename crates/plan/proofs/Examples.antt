@@ -148,7 +148,7 @@ capitals : List ℕ
 capitals = 1 ∷ 72 ∷ 1 ∷ 65 ∷ 0 ∷ []
 
 -- marks of slots, the same for h.a in either case; and slots that are alike: the same short name is, a long one is not even with itself
-marks : map markOf (slotOf root ∷ slotOf ha ∷ slotOf capitals ∷ slotOf pa ∷ slotOf (long 1) ∷ slotOf (long 2) ∷ []) ≡ 52373 ∷ 52614 ∷ 52614 ∷ 9522 ∷ 851 ∷ 631 ∷ []
+marks : map markOf (slotOf root ∷ slotOf ha ∷ slotOf capitals ∷ slotOf pa ∷ slotOf (long 1) ∷ slotOf (long 2) ∷ []) ≡ 52373 ∷ 27802 ∷ 27802 ∷ 50246 ∷ 823 ∷ 603 ∷ []
 unfolding markOf slotOf root capitals long blank
 marks = refl
 

@@ -19,7 +19,7 @@ use Rattle.plan.specs.Layout.{nameRoom, nameIn, slotOf, ownerSlot, isDna
 use Rattle.plan.specs.First.{some}
 use Rattle.plan.specs.Check.{twin, repeats}
 use Rattle.plan.specs.Good.{Holds}
-use Rattle.plan.specs.Marks.{termAt, sumTo, sumOf, markOf, markAt, Marked, Ready, among}
+use Rattle.plan.specs.Marks.{caseless, termAt, sumTo, sumOf, markOf, markAt, Marked, Ready, among}
 use Rattle.plan.proofs.FirstLaws.{none-first, none-some}
 use Rattle.plan.proofs.OrderLaws.{sound-good}
 
@@ -48,34 +48,35 @@ module _ (s : List ℕ) where
   unfolding sumOf
   sum-long h = rw (sumOf, le-ltb (getD s 0 0) 32 h)
 
--- slots with the same first octet, and all octets the same modulo 32, have the same mark
-module _ (s s′ : List ℕ) (e : getD s 0 0 ≡ getD s′ 0 0) (h : (i : ℕ) → getD s i 0 % 32 ≡ getD s′ i 0 % 32) where
-  mod-term : (k : ℕ) → termAt s k ≡ termAt s′ k
+-- slots with the same first octet, and all octets the same but for case, have the same mark
+module _ (s s′ : List ℕ) (e : getD s 0 0 ≡ getD s′ 0 0) (h : (i : ℕ) → caseless (getD s i 0) ≡ caseless (getD s′ i 0)) where
+  case-term : (k : ℕ) → termAt s k ≡ termAt s′ k
   unfolding termAt
-  mod-term k = let i = k * 4 in rw (h i, h (i + 1), h (i + 2), h (i + 3))
+  case-term k = let i = k * 4 in rw (h i, h (i + 1), h (i + 2), h (i + 3))
 
-  mod-sum : (k : ℕ) → sumTo s k ≡ sumTo s′ k
+  case-sum : (k : ℕ) → sumTo s k ≡ sumTo s′ k
   unfolding sumTo
-  mod-sum zero = refl
-  mod-sum (suc k) = rw (mod-sum k, mod-term k)
+  case-sum zero = refl
+  case-sum (suc k) = rw (case-sum k, case-term k)
 
-  mod-mark : markOf s ≡ markOf s′
+  case-mark : markOf s ≡ markOf s′
   unfolding markOf
-  mod-mark = ap (λ (n : ℕ). (n / 4096 + n / 16777216 * 3 + n) % 65536) (go (ltb (getD s 0 0) 32) refl)
+  case-mark = ap (λ (n : ℕ). (n / 4096 + n / 16777216 * 3 + n) % 65536) (go (ltb (getD s 0 0) 32) refl)
     where
       go : (t : Bool) → ltb (getD s 0 0) 32 ≡ t → sumOf s ≡ sumOf s′
-      go true d = let l = ltb-true (getD s 0 0) 32 d in sum-short s l ∙ mod-sum 8 ∙ sym (sum-short s′ (omega arith))
-      go false d = let l = ltb-false (getD s 0 0) 32 d in sum-long s l ∙ mod-sum 64 ∙ sym (sum-long s′ (omega arith))
+      go true d = let l = ltb-true (getD s 0 0) 32 d in sum-short s l ∙ case-sum 8 ∙ sym (sum-short s′ (omega arith))
+      go false d = let l = ltb-false (getD s 0 0) 32 d in sum-long s l ∙ case-sum 64 ∙ sym (sum-long s′ (omega arith))
 
--- a letter is the same modulo 32 in either case
-lower-mod : (x : ℕ) → lower x % 32 ≡ x % 32
-lower-mod x = ⊎-elim (λ e. ap (λ (y : ℕ). y % 32) e) (λ e. omega (arith, e .2)) (lower-ways x)
+-- a letter is the same in either case, but for the bit that tells the case
+lower-case : (x : ℕ) → caseless (lower x) ≡ caseless x
+unfolding caseless
+lower-case x = ⊎-elim (λ e. ap caseless e) (λ e. ap caseless (e .2) ∙ omega (arith, e .0, e .1)) (lower-ways x)
 
--- octets that are the same in lower case are the same modulo 32
-lowered-mod : (xs ys : List ℕ) → map lower xs ≡ map lower ys → (i : ℕ) → getD xs i 0 % 32 ≡ getD ys i 0 % 32
-lowered-mod xs ys h i =
+-- octets that are the same in lower case are the same but for case
+lowered-case : (xs ys : List ℕ) → map lower xs ≡ map lower ys → (i : ℕ) → caseless (getD xs i 0) ≡ caseless (getD ys i 0)
+lowered-case xs ys h i =
     let e : lower (getD xs i 0) ≡ lower (getD ys i 0) = sym (List·getD-map lower xs i 0) ∙ ap (λ (l : List ℕ). getD l i (lower 0)) h ∙ List·getD-map lower ys i 0 in
-    sym (lower-mod (getD xs i 0)) ∙ ap (λ (x : ℕ). x % 32) e ∙ lower-mod (getD ys i 0)
+    sym (lower-case (getD xs i 0)) ∙ ap caseless e ∙ lower-case (getD ys i 0)
 
 -- names that are the same in lower case: so are their lengths, their slots in lower case, and their marks
 module _ (m n : List ℕ) (h : map lower m ≡ map lower n) where
@@ -88,7 +89,7 @@ module _ (m n : List ℕ) (h : map lower m ≡ map lower n) where
 
   slot-mark : markOf (slotOf m) ≡ markOf (slotOf n)
   unfolding slotOf
-  slot-mark = mod-mark (slotOf m) (slotOf n) lowered-length (lowered-mod (slotOf m) (slotOf n) lowered-slot)
+  slot-mark = case-mark (slotOf m) (slotOf n) lowered-length (lowered-case (slotOf m) (slotOf n) lowered-slot)
 
 -- Theorem: slots of the same name have the same mark; the one law that ties marks to the equality of names
 pub same-mark : (s s′ : List ℕ) → Holds s → Holds s′ → sameName (nameIn s) (nameIn s′) ≡ true → markOf s ≡ markOf s′

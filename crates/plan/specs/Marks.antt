@@ -19,9 +19,14 @@ unfoldable pub pairAt : List ℕ → ℕ → ℕ
 unfolding wordAt
 pairAt s i = wordAt s i + wordAt s (i + 4) * 4294967296
 
--- the four octets from a place on as one number, each modulo 32: a letter counts the same in either case then (T-03)
+-- an octet without the bit of weight 32: a letter is the same in either case then (T-03)
+unfoldable pub caseless : ℕ → ℕ
+caseless x = x / 64 * 64 + x % 32
+
+-- the four octets from a place on as one number, each without that bit, the lowest first
 unfoldable pub maskedAt : List ℕ → ℕ → ℕ
-maskedAt s i = getD s i 0 % 32 + getD s (i + 1) 0 % 32 * 256 + getD s (i + 2) 0 % 32 * 65536 + getD s (i + 3) 0 % 32 * 16777216
+unfolding caseless
+maskedAt s i = caseless (getD s i 0) + caseless (getD s (i + 1) 0) * 256 + caseless (getD s (i + 2) 0) * 65536 + caseless (getD s (i + 3) 0) * 16777216
 
 -- what word k adds to the sum of a slot: each has a factor of its own, so that the order of words tells
 unfoldable pub termAt : List ℕ → ℕ → ℕ

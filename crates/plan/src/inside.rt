@@ -32,8 +32,8 @@ pub const A6: u16 = 38;
 
 pub const DNAME: u16 = 39;
 
-// The five low bits of each octet of a word: those of a letter are the same in either case (T-03).
-const CASELESS: usize = 0x1F1F1F1F;
+// All bits of the four octets of a word but the one of each that tells the case of a letter (T-03).
+const CASELESS: usize = 0xDFDFDFDF;
 
 // What a table and a given name earn together, and the name in standard form, none where it is malformed.
 pub struct Entered {
@@ -355,7 +355,7 @@ fn term(slot: &[u8], k: usize) -> usize
     masked(slot, k * 4) * (52361 + k * 7919)
 }
 
-// The four octets from a place on as one number, each modulo 32, by one mask on the word.
+// The four octets from a place on as one number, each without the bit that tells the case of a letter, by one mask on the word.
 fn masked(slot: &[u8], i: usize) -> usize
     requires { ⌜ i + 4 ≤ length (now slot) ⌝ }
     ensures { λ r. ⌜ (r ≡ maskedAt (now (slot .entry)) i) × (r < 4294967296) ⌝ }

@@ -13,7 +13,7 @@ returns : tie.Need-returns
 unfolding countFor
 returns c =
     let a = c .before .before .args in
-    rw (List·getD-eq-default (a .name .now) 0 {n = a .i} (omega arith))
+    (rw (List·getD-eq-default (a .name .now) 0 {n = a .i} (omega arith)), omega arith)
 
 shared-slice-read-count : tie.Need-shared-slice-read-count
 shared-slice-read-count c = search needs
@@ -28,7 +28,7 @@ add-result-2 : tie.Need-add-result-2
 add-result-2 c = search needs
 
 returns-2 : tie.Need-returns-2
-returns-2 c = search needs
+returns-2 c = (rw (c .count .ensures .0), omega arith)
 
 pub bit-octets-spec : {M : Type 1} → statement M
 bit-octets-spec =

@@ -1,6 +1,6 @@
 -- `names::inside::respelt` meets its contract: octets that differ by more than the case of a letter have other keys.
 use mathlib.Core.Path.{_∙_, sym}
-use Rattle.names.proofs.KeyLaws.{keys-differ}
+use Rattle.names.proofs.SameKeyLaws.{keys-differ, walk-whole}
 use borrow.Author.Needs.{needs}
 use Rattle.names.proofs.inside.respelt.Statement.{statement}
 use Rattle.names.proofs.inside.respelt.Tie as tie
@@ -27,7 +27,9 @@ same-labels-requires : tie.Need-same-labels-requires
 same-labels-requires c κs = search needs
 
 returns-2 : tie.Need-returns-2
-returns-2 c = search needs
+returns-2 c =
+    let a = c .before .before .before .before .before .before .before .before .args in
+    c .same-labels .ensures ∙ walk-whole (a .a .now) (a .b .now)
 
 pub respelt-spec : {M : Type 1} → statement M
 respelt-spec =

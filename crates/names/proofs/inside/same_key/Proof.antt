@@ -6,7 +6,7 @@ use native.Mathlib.Omega.{arith}
 use Rattle.octets.specs.Octets.{same}
 use Rattle.octets.proofs.SameLaws.{same-eq, same-refl, same-on, same-end}
 use Rattle.names.specs.Keys.{keyOctets}
-use Rattle.names.proofs.KeyLaws.{keys-unlike}
+use Rattle.names.proofs.SameKeyLaws.{keys-unlike}
 use borrow.Author.Needs.{needs}
 use Rattle.names.proofs.inside.same_key.Statement.{statement}
 use Rattle.names.proofs.inside.same_key.Tie as tie

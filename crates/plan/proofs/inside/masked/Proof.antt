@@ -13,7 +13,7 @@ returns : tie.Need-returns
 returns c =
     let a = c .before .before .args in
     let small = c .before .shared-slice-known .given in
-    (rw (c .word .ensures .0) (mask-word (a .slot .now) (λ i. small i .fits) (a .i)), omega (arith, and-le-l (c .word .result) 522133279))
+    (rw (c .word .ensures .0) (mask-word (a .slot .now) (λ i. small i .fits) (a .i)), omega (arith, and-le-l (c .word .result) 3755991007))
 
 pub masked-spec : {M : Type 1} → statement M
 masked-spec = tie.close (tie.spec word-requires returns)
