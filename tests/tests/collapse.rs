@@ -1,4 +1,4 @@
-//! `a6plan_collapse` against the reference and the plain rules, and lists of collapses (01, Collapse of a name X).
+//! `a6plan_collapse` against the reference and the plain rules, and lists of collapses (01, Collapse of a name X; T-03).
 
 use a6plan_tests::generate::examples::{self, address};
 use a6plan_tests::generate::forward::{self as make, Tangle};
@@ -9,8 +9,8 @@ use a6plan_tests::lent;
 use a6plan_tests::met::Met;
 use a6plan_tests::plain::collapse::{self as plain, Plan};
 use a6plan_tests::plain::forward::Graph;
-use a6plan_tests::plain::names::{whole, Unit};
-use a6plan_tests::plain::plan::check;
+use a6plan_tests::plain::names::{encode, whole, Unit};
+use a6plan_tests::plain::plan::{check, same};
 use a6plan_tests::reference::collapse as reference;
 use a6plan_tests::reference::plan::{MOST, RECORD};
 use a6plan_tests::{ffi, text};
@@ -266,7 +266,7 @@ fn a_name_with_nothing_unfinished_gives_a_copy_or_7() {
     assert_eq!(sides.shown(), []);
 }
 
-/// The given name need not be in standard form.
+/// The given name need not be in standard form, and its letters may be in either case.
 #[test]
 fn any_spelling_of_a_name_is_collapsed() {
     let mut sides = Sides::new();
@@ -278,6 +278,109 @@ fn any_spelling_of_a_name_is_collapsed() {
     for _ in 0..200 {
         let spelling = names::respelt(&mut random, &owner);
         assert_eq!(sides.collapsed(&table, &spelling), expected, "{spelling:02x?}");
+    }
+}
+
+// Letters of either case (T-03).
+
+/// Records of x, of its targets and of others, each in its own letters: a record that takes a place has the owner of the
+/// record that was there and the target of the one that it is made of, both as they are stored.
+#[test]
+fn owners_and_targets_are_kept_as_they_are_stored() {
+    let mut sides = Sides::new();
+    let table = [
+        a6("X.One", 64, "::1", "p.TWO"),
+        a6("x.oNE", 0, "::9", ""),
+        a6("P.two", 32, "0:0:2::", "Q.Three"),
+        a6("x.one", 48, "::3", "Q.three"),
+        a6("p.Two", 64, "::", "X.ONE"),
+        dname_record(&name("x.ONE"), &name("P.TWO")),
+        a6("q.THREE", 0, "2001:db8::", ""),
+        a6("P.TWO", 65, "::", "q.three"),
+        a6("X.ONE", 64, "::4", "nobody"),
+    ];
+    let expected = [
+        a6("X.One", 32, "0:0:2::1", "Q.Three"),
+        a6("X.One", 64, "::1", "X.ONE"),
+        table[1],
+        table[2],
+        a6("x.one", 0, "2001:db8::3", ""),
+        table[4],
+        table[5],
+        table[6],
+        table[7],
+    ];
+    for spelling in ["x.one", "X.ONE", "X.One", "x.OnE"] {
+        assert_eq!(sides.collapsed(&table.concat(), &name(spelling)), expected.concat(), "{spelling}");
+    }
+}
+
+/// A record goes or stays by its target's letters in any case, but not by octets that are no letters.
+#[test]
+fn records_are_continued_by_the_owners_of_their_targets_in_any_letters() {
+    let mut sides = Sides::new();
+    for (target, owner, records) in [
+        ("p.a", "P.A", 2),
+        ("Z", "z", 2),
+        ("@", "`", 1),
+        ("[", "{", 1),
+        (r"\193", r"\225", 1),
+        (r"\[x41/8].a", r"\[x41/8].A", 2),
+        (r"\[x41/8].a", r"\[x61/8].a", 1),
+    ] {
+        let made = a6_record(&text::name(owner), 0, 5 << 64, &[]);
+        let table = [a6_record(&name("x"), 64, 7, &text::name(target)), made].concat();
+        let collapsed = sides.collapsed(&table, &name("X"));
+        assert_eq!(collapsed.len() / RECORD, records, "{target} and {owner}");
+    }
+}
+
+/// 9 by a referrer that spells the name in another way than its records do, and the given name in a third.
+#[test]
+fn a_referrer_in_other_letters_refuses_the_name() {
+    let mut sides = Sides::new();
+    for (referrer, own) in [(1, 1), (1, 2), (47, 48), (48, 48), (49, 48), (127, 128), (128, 128)] {
+        let expected = if own > referrer { 9 } else { 0 };
+        for (target, owner, given) in [("xy", "XY", "Xy"), ("XY", "xy", "xy"), ("xY", "Xy", "xY"), ("Xy", "Xy", "XY")] {
+            let (refers, record) = (a6("r", referrer, "::", target), a6(owner, own, "::", "nobody"));
+            for table in [[refers, record], [record, refers]] {
+                let number = sides.within(&table.concat(), &name(given), 8);
+                assert_eq!(number, expected, "{target} {referrer}, {owner} {own}, {given}");
+            }
+        }
+        // Bits that look like the letters of the target refuse nothing.
+        let (target, owner) = (text::name(r"\[x41/8].x"), text::name(r"\[x61/8].x"));
+        let table = [a6_record(&name("r"), referrer, 0, &target), a6_record(&owner, own, 0, &name("nobody"))];
+        assert_eq!(sides.within(&table.concat(), &owner, 8), 0);
+    }
+    let mut random = Random::new(59);
+    for _ in 0..100 {
+        let table = plan::in_either_case(&mut random, &examples::ignored());
+        assert_eq!(sides.within(&table, &names::in_either_case(&mut random, &name("p.a")), MOST), 9);
+        assert_eq!(sides.within(&table, &names::in_either_case(&mut random, &name("h.a")), MOST), 0);
+    }
+}
+
+/// Every name of the realistic plan, owners and targets respelt at random, and the plan of the benchmark in which every
+/// second name is: the same number, and the same table but for spelling.
+#[test]
+fn the_realistic_plan_respelt_is_collapsed_alike() {
+    let mut sides = Sides::new();
+    let mut random = Random::new(60);
+    let plan = realistic();
+    for table in [plan.respelt().table, plan::in_either_case(&mut random, &plan.table)] {
+        let all = Plan::new(&table);
+        for (at, owner) in plan.carriers.iter().chain(&plan.upstreams).chain(&plan.hosts).chain(&plan.sites).enumerate()
+        {
+            let number = sides.within(&plan.table, owner, MOST);
+            let collapsed = sides.shown().to_vec();
+            let given = names::in_either_case(&mut random, owner);
+            assert_eq!(sides.within(&table, &given, MOST), number, "{given:02x?}");
+            if number == 0 && at < 60 {
+                assert!(same(sides.shown(), &collapsed), "{given:02x?}");
+                assert!(sides.shown() == all.fold(&whole(&given).expect("a name")), "{given:02x?}");
+            }
+        }
     }
 }
 
@@ -489,6 +592,77 @@ fn lists(seed: u64) {
     println!("{changed} changed the table, {needed} times 9 was needed, {lost} names lost all records");
     assert!(changed > LISTS / 2 && lost > LISTS / 100);
     assert!(needed * 5 > met.times(9), "9 was needed {needed} times");
+}
+
+/// Calls in lists of collapses by tables that are respelt.
+const RESPELT: usize = 100_000;
+
+/// Whether a lookup has these addresses; None where its work is too much.
+fn looks_up(table: &[u8], name: &[u8], addresses: &BTreeSet<u128>) -> Option<bool> {
+    const ROOM: usize = 256;
+    let (mut out, mut ttls, mut figures) = ([0; 16 * ROOM], [0; ROOM], [0; 2]);
+    match ffi::lookup(table, name, 2_000, &mut out, &mut ttls, &mut figures) {
+        0 => {
+            let (found, _) = out.as_chunks();
+            let found = found[..figures[0] as usize].iter().map(|octets| u128::from_be_bytes(*octets));
+            Some(found.eq(addresses.iter().copied()))
+        }
+        number => {
+            assert!(number == 6 || number == 7, "{number}");
+            None
+        }
+    }
+}
+
+/// Demand 3 read with letters of either case. A list of collapses goes by a table and by the same table respelt, each
+/// call with the name in letters of its own: the numbers are the same, and the tables in hand are the same but for
+/// spelling and as the plain rules have them. After the list, refused calls included, every name has in every spelling
+/// the addresses of the first table.
+#[test]
+fn lists_of_collapses_by_respelt_tables_keep_the_addresses_of_every_name_in_every_spelling() {
+    let mut sides = Sides::new();
+    let mut random = Random::new(64);
+    let (mut made, mut tangle) = (Name::new(), Tangle::default());
+    let mut met = Met::default();
+    let (mut lists, mut calls, mut changed, mut looked_up) = (0, 0, 0, 0);
+    while calls < RESPELT {
+        make::either(&mut random, &mut made, 4, [7, 8], &mut tangle);
+        let mut table = tangle.table.clone();
+        let mut respelt = plan::in_either_case(&mut random, &table);
+        let graph = Graph::new(&table);
+        let first: Vec<(Vec<u8>, BTreeSet<u128>)> =
+            graph.names().iter().map(|units| (encode(units), graph.addresses(units))).collect();
+        for _ in 0..random.between(1, 5) {
+            let given = &tangle.names[random.below(tangle.names.len())];
+            let out = if random.once_in(8) { random.below(12) * RECORD } else { 40 * RECORD };
+            let number = sides.number(&table, &names::respelt(&mut random, given), out, 2);
+            let collapsed = sides.shown().to_vec();
+            let given = names::respelt(&mut random, given);
+            assert_eq!(sides.number(&respelt, &given, out, 2), number, "list {lists}");
+            assert_eq!(sides.0.answer(number), plain::collapse(&respelt, &given, out, 2), "list {lists}");
+            met.count(number);
+            calls += 1;
+            if number == 0 {
+                assert!(same(sides.shown(), &collapsed), "list {lists}");
+                changed += (collapsed != table) as usize;
+                table = collapsed;
+                respelt = sides.shown().to_vec();
+            }
+        }
+        let last = Graph::new(&respelt);
+        for (name, addresses) in &first {
+            let spelling = names::respelt(&mut random, name);
+            let units = whole(&spelling).expect("a name");
+            assert_eq!(last.addresses(&units), *addresses, "list {lists}, {spelling:02x?}");
+            let same = looks_up(&respelt, &spelling, addresses);
+            assert_ne!(same, Some(false), "list {lists}, {spelling:02x?}");
+            looked_up += same.is_some() as usize;
+        }
+        lists += 1;
+    }
+    met.are("collapses of respelt tables", &[0, 7, 9], RESPELT / 50);
+    println!("{lists} lists, {changed} of {calls} calls changed the table, {looked_up} names looked up after them");
+    assert!(changed > RESPELT / 5 && looked_up > RESPELT / 2);
 }
 
 /// Large tables: every name of the realistic one collapsed, and a list of collapses that ends with none unfinished.

@@ -1,4 +1,4 @@
-//! `a6plan_lookup` against the reference and the plain rules (01, Chains; T-01).
+//! `a6plan_lookup` against the reference and the plain rules (01, Chains; T-01, T-03).
 
 use a6plan_tests::generate::examples::{self, address};
 use a6plan_tests::generate::forward::{self as make, Tangle};
@@ -219,7 +219,8 @@ fn the_first_number_that_is_earned_is_given() {
     }
 }
 
-/// The given name need not be in standard form; its records are found by any spelling.
+/// The given name need not be in standard form, and its letters may be in either case; its records are found by any
+/// spelling.
 #[test]
 fn any_spelling_of_a_name_finds_its_records() {
     let mut sides = Sides::new();
@@ -229,10 +230,12 @@ fn any_spelling_of_a_name_finds_its_records() {
         r"\[xABCD/16].h.\[xF0/5].a",
         r"\[xCD/8].\[xAB/8].h.\[xF0/5].a",
         r"\[xD/4].\[xC/4].\[xB/4].\[xA/4].h.\[x0/1].\[xF/4].a",
+        r"\[xABCD/16].H.\[xF0/5].a",
+        r"\[xCD/8].\[xAB/8].h.\[xF0/5].A",
     ] {
         assert_eq!(sides.found(&table, &text::name(spelling)), (vec![7], 1), "{spelling}");
     }
-    for other in [r"\[xAB/8].\[xCD/8].h.\[xF0/5].a", r"\[xABCC/16].h.\[xF0/5].a", r"\[xABCD/16].H.\[xF0/5].a", "a", ""]
+    for other in [r"\[xAB/8].\[xCD/8].h.\[xF0/5].a", r"\[xABCC/16].h.\[xF0/5].a", r"\[x8BCD/16].h.\[xF0/5].a", "a", ""]
     {
         assert_eq!(sides.found(&table, &text::name(other)), (vec![], 0), "{other}");
     }
@@ -315,6 +318,101 @@ fn every_pair_of_prefix_lengths() {
                 _ => (vec![], 1),
             };
             assert_eq!(sides.found(&table, &name("h")), expected, "{first} and {second}");
+        }
+    }
+}
+
+// Letters of either case (T-03).
+
+/// A carrier writes small letters in targets and capitals in owners.
+#[test]
+fn chains_go_on_where_owners_and_targets_differ_in_case() {
+    let mut sides = Sides::new();
+    let table = [
+        a6_record(&name("h.a"), 64, 7, &name("ip6.example")),
+        a6_record(&name("IP6.EXAMPLE"), 48, 5 << 64, &name("ip6.carrier.net")),
+        a6_record(&name("Ip6.example"), 48, 6 << 64, &name("IP6.Carrier.Net")),
+        a6_record(&name("IP6.CARRIER.NET"), 0, 3 << 96, &[]),
+    ]
+    .concat();
+    let both = vec![3 << 96 | 5 << 64 | 7, 3 << 96 | 6 << 64 | 7];
+    for spelling in ["h.a", "H.A", "h.A"] {
+        assert_eq!(sides.found(&table, &name(spelling)), (both.clone(), 5), "{spelling}");
+    }
+    assert_eq!(sides.found(&table, &name("iP6.eXAMPLE")).1, 4);
+    assert_eq!(sides.found(&table, &name("ip6.carrier.net")), (vec![3 << 96], 1));
+}
+
+/// 01's loop, and the record that a referrer ignores, in letters of any case.
+#[test]
+fn loops_and_ignored_records_are_known_in_any_letters() {
+    let mut sides = Sides::new();
+    let mut random = Random::new(38);
+    for _ in 0..200 {
+        let table = plan::in_either_case(&mut random, &examples::loop_of_one());
+        for spelling in ["x.a", "X.a", "x.A", "X.A"] {
+            let found = sides.found(&table, &name(spelling));
+            assert_eq!(found, (addresses(&["2001:db8::", "2001:db8::1"]), 3), "{spelling}");
+        }
+        let table = plan::in_either_case(&mut random, &examples::ignored());
+        for spelling in ["h.a", "H.a", "h.A", "H.A"] {
+            assert_eq!(sides.found(&table, &name(spelling)), (addresses(&["2001:db8::"]), 2), "{spelling}");
+        }
+    }
+}
+
+/// Three records that lead back and five finished ones, each with its own spelling of one name.
+#[test]
+fn records_of_one_name_in_many_spellings_count_together() {
+    let mut sides = Sides::new();
+    let mut random = Random::new(39);
+    let Tangle { table, names } = make::one_name(3, 5);
+    let found = sides.lasting(&table, &names[0]);
+    let work = sides.shown().1;
+    for _ in 0..500 {
+        let respelt = plan::in_either_case(&mut random, &table);
+        let given = names::in_either_case(&mut random, &names[0]);
+        assert_eq!(sides.lasting(&respelt, &given), found, "{given:02x?}");
+        assert_eq!(sides.shown().1, work);
+    }
+}
+
+/// Owners whose bits look like the letters of the target: the chain ends.
+#[test]
+fn a_target_does_not_lead_to_bits_that_look_like_its_letters() {
+    let mut sides = Sides::new();
+    for (target, owner, count) in [
+        (r"\[x41/8].a", r"\[x61/8].a", 0),
+        (r"\[x41/8].a", r"\[x41/8].A", 1),
+        ("A.a", r"\[x41/8].a", 0),
+        ("@.a", "`.a", 0),
+        ("[.a", "{.a", 0),
+        (r"\193.a", r"\225.a", 0),
+        ("Z.a", "z.a", 1),
+    ] {
+        let table = [a6_record(&name("h"), 64, 7, &text::name(target)), a6_record(&text::name(owner), 0, 5 << 64, &[])];
+        let (found, work) = sides.found(&table.concat(), &name("h"));
+        assert_eq!((found.len(), work), (count, 1 + count as u32), "{target} and {owner}");
+    }
+}
+
+/// Every name of the realistic plan, owners and targets respelt at random, and the plan of the benchmark in which every
+/// second name is: the same addresses, TTLs and work by any spelling of the given name.
+#[test]
+fn the_realistic_plan_respelt_has_the_same_addresses_ttls_and_work() {
+    let mut sides = Sides::new();
+    let mut random = Random::new(40);
+    let plan = plan::realistic();
+    let mut tables = vec![plan.respelt().table];
+    tables.extend((0..3).map(|_| plan::in_either_case(&mut random, &plan.table)));
+    for name in plan.hosts.iter().chain(&plan.sites).chain(&plan.carriers).chain(&plan.upstreams) {
+        let found = sides.lasting(&plan.table, name);
+        let work = sides.shown().1;
+        assert!(!found.is_empty());
+        for table in &tables {
+            let given = names::respelt(&mut random, name);
+            assert_eq!(sides.lasting(table, &given), found, "{given:02x?}");
+            assert_eq!(sides.shown().1, work, "{given:02x?}");
         }
     }
 }
@@ -660,6 +758,41 @@ fn generated_calls_agree_octet_for_octet() {
         assert_eq!(left, plain::lookup(table, &name, limit, [out, ttls, figures]), "case {case}");
     }
     met.are("lookup", &[0, 1, 2, 3, 4, 5, 6, 7], CALLS / 100);
+}
+
+/// Names of tables that are respelt.
+const RESPELT: usize = 100_000;
+
+/// The library leaves the same for a table and for the same table respelt, by any spelling of the given name: the
+/// number, the addresses, the TTLs and the work. They are those of the plain rules.
+#[test]
+fn generated_tables_respelt_have_the_same_addresses_ttls_and_work() {
+    let mut sides = Sides::new();
+    let mut random = Random::new(41);
+    let (mut made, mut tangle) = (Name::new(), Tangle::default());
+    let mut met = Met::default();
+    let (mut cases, mut several) = (0, 0);
+    while cases < RESPELT {
+        make::either(&mut random, &mut made, 2, [9, 9], &mut tangle);
+        let Tangle { table, names } = &tangle;
+        let respelt = plan::in_either_case(&mut random, table);
+        for name in names {
+            let limit = random.pick(&[2, 20, COUNTED as u32, COUNTED as u32]);
+            let room = random.pick(&[0, 1, 3, 64, 64]);
+            let number = sides.within(table, name, limit, room);
+            let left = (sides.0.answer(number), sides.0.ttls.shown().to_vec());
+            let given = names::respelt(&mut random, name);
+            let number = sides.within(&respelt, &given, limit, room);
+            assert_eq!((sides.0.answer(number), sides.0.ttls.shown().to_vec()), left, "case {cases}");
+            assert_eq!(left, plain::lookup(&respelt, &given, limit, [16 * room, room, 2]), "case {cases}");
+            met.count(number);
+            several += (number == 0 && sides.0.counted()[0] > 1) as usize;
+            cases += 1;
+        }
+    }
+    met.are("lookup in respelt tables", &[0, 6, 7], RESPELT / 100);
+    println!("{cases} names of respelt tables, {several} with several addresses");
+    assert!(several > RESPELT / 12);
 }
 
 /// Tables in which chains are up to 1,024 records long.

@@ -315,6 +315,49 @@ fn a_last_label_of_every_size_across_octet_255() {
     }
 }
 
+/// Letters of either case count alike where names are compared (T-03); the standard form keeps them as they are.
+#[test]
+fn the_standard_form_keeps_the_case_of_letters() {
+    let mut sides = Sides::new();
+    let label = b"aAbBcCdDeEfFgGhHiIjJkKlLmMnNoOpPqQrRsStTuUvVwWxXyYzZ";
+    let (mut name, mut parts, mut whole) = (Name::new(), Name::new(), Name::new());
+    name.label(label);
+    parts.bits(8, &[0x61]);
+    parts.bits(8, &[0x41]);
+    whole.bits(16, &[0x41, 0x61]);
+    for name in [&mut name, &mut parts, &mut whole] {
+        name.label(label);
+        name.label(b"Ip6");
+        name.label(b"aRPA");
+        name.end();
+    }
+    assert_eq!(sides.form(&name.octets), name.octets);
+    assert_eq!(sides.form(&parts.octets), whole.octets);
+    assert_eq!(sides.form(&whole.octets), whole.octets);
+}
+
+/// Names respelt in letters and in bit labels.
+const RESPELT: usize = 50_000;
+
+#[test]
+fn generated_names_respelt_keep_the_case_of_letters() {
+    let mut sides = Sides::new();
+    let mut random = Random::new(7);
+    let mut name = Name::new();
+    let mut others = 0;
+    for _ in 0..RESPELT {
+        make::standard(&mut random, &mut name);
+        let respelt = make::in_either_case(&mut random, &name.octets);
+        assert_eq!(sides.form(&respelt), respelt);
+        let parts = make::respelt(&mut random, &name.octets);
+        let form = sides.form(&parts);
+        assert_eq!(sides.0.answer(0), plain::standard(&parts, 255, 2), "{parts:02x?}");
+        assert!(plain::same(&plain::whole(&form).expect("a name"), &plain::whole(&name.octets).expect("a name")));
+        others += (form != name.octets) as usize;
+    }
+    assert!(others > RESPELT / 2, "{others} are spelt in another way");
+}
+
 // Outputs.
 
 const NAMES: [&[u8]; 5] = [&[0], &[1, b'a', 0], &[65, 1, 0x80, 65, 2, 0x40, 0], &[], &[65, 1, 0x40, 0]];

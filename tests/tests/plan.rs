@@ -440,11 +440,86 @@ fn owners_of_which_one_is_part_of_another_are_not_shared() {
     }
 }
 
-/// A letter and its capital are two octets (01, Names).
+/// T-03, wherever the two records stand, and whatever stands between them.
 #[test]
-fn owners_in_letters_of_another_case_are_not_shared() {
-    let table = [dname_record(&name("ip6.a"), &name("t")), dname_record(&name("IP6.a"), &name("t"))].concat();
+fn owners_in_letters_of_another_case_are_shared() {
+    let one = dname_record(&name("shared.owner.a"), &name("t.a"));
+    for table in [plain_table(MOST), make::realistic().table, make::worst(63), make::worst(1)] {
+        for (first, second) in PLACES {
+            for owner in ["SHARED.OWNER.A", "Shared.owner.a", "shared.owner.A", "sHARED.oWNER.a"] {
+                let mut table = table.clone();
+                put(&mut table, first, &one);
+                put(&mut table, second, &dname_record(&name(owner), &name("another.target")));
+                assert_eq!(check(&table), 3, "{owner} at {first} and {second}");
+                table[second * RECORD + 1] = A6;
+                table[second * RECORD + 2] = 64;
+                assert_eq!(check(&table), 0, "{owner} of A6 at {second}");
+            }
+        }
+    }
+}
+
+/// One letter at each place of a long owner; then an owner of the worst table again, all letters in either case.
+#[test]
+fn an_owner_in_letters_of_another_case_is_found_at_any_place() {
+    for longest in [1, 5, 63] {
+        let (owner, places) = make::full_name(longest, b'o');
+        let one = dname_record(&owner, &name("t.a"));
+        for place in places {
+            for (octet, expected) in [(b'O', 3), (b'o', 3), (b'o' ^ 0x40, 0), (b'P', 0), (b'p', 0)] {
+                let mut other = owner.clone();
+                other[place] = octet;
+                let other = dname_record(&other, &name("t.a"));
+                assert_eq!(check(&[one, other].concat()), expected, "octet {place} is {octet:#04x}");
+                assert_eq!(check(&[other, one].concat()), expected, "octet {place} is {octet:#04x}");
+            }
+        }
+    }
+    let mut random = Random::new(23);
+    let table = make::worst(63);
+    for index in [0, 1, 500, MOST - 2] {
+        let mut table = make::in_either_case(&mut random, &table);
+        assert_eq!(check(&table), 0);
+        let again = make::in_either_case(&mut random, &table[index * RECORD..(index + 1) * RECORD]);
+        put(&mut table, MOST - 1, again[..].try_into().expect("a record"));
+        assert_eq!(check(&table), 3, "record {index} again at the end");
+    }
+}
+
+/// An A and an a among bits are two octets, and so is every pair of octets that differ in the bit of case alone.
+#[test]
+fn owners_whose_bits_look_like_letters_of_another_case_are_not_shared() {
+    for at in 0..32 {
+        for (one, other) in [(0x41, 0x61), (0x5a, 0x7a), (0x40, 0x60), (0, 0x20)] {
+            let owners = [one, other].map(|octet| {
+                let mut bits = [0x41; 32];
+                bits[at] = octet;
+                let mut owner = Name::new();
+                owner.bits(256, &bits);
+                owner.label(b"a");
+                owner.end();
+                dname_record(&owner.octets, &name("t"))
+            });
+            assert_eq!(check(&owners.concat()), 0, "octet {at}: {one:#04x} and {other:#04x}");
+            assert_eq!(check(&[owners[0], owners[0]].concat()), 3, "octet {at}: {one:#04x}");
+        }
+    }
+    // A thousand owners that differ in such bits alone.
+    let table: Vec<u8> = (0..MOST)
+        .flat_map(|number| {
+            let mut owner = Name::new();
+            owner.bits(80, &[0x41; 10]);
+            for bit in 0..10 {
+                owner.octets[2 + bit] |= ((number >> bit & 1) as u8) << 5;
+            }
+            owner.end();
+            dname_record(&owner.octets, &name("t"))
+        })
+        .collect();
     assert_eq!(check(&table), 0);
+    let mut shared = table.clone();
+    shared.copy_within(..RECORD, (MOST - 1) * RECORD);
+    assert_eq!(check(&shared), 3);
 }
 
 #[test]
@@ -455,6 +530,8 @@ fn only_owners_of_dnames_must_differ() {
     let dname = dname_record(&owner, &name("t.a"));
     let itself = dname_record(&owner, &owner);
     assert_eq!(check(&[a6, a6, done, done].concat()), 0, "equal A6 records");
+    let capitals = a6_record(&name("O.A"), 64, 7, &name("O.a"));
+    assert_eq!(check(&[a6, capitals, dname, capitals].concat()), 0, "equal A6 records in other letters");
     assert_eq!(check(&[a6, dname].concat()), 0, "A6 and DNAME");
     assert_eq!(check(&[dname, done, a6].concat()), 0, "DNAME and A6");
     assert_eq!(check(&itself), 0, "a DNAME that targets its own owner");
@@ -500,6 +577,22 @@ fn the_owner_of_every_kind_of_record_is_shown() {
         assert_eq!(sides.part(record, 0), Some(part));
         assert_eq!(sides.part(record, 1), None);
     }
+}
+
+/// The owner part shows the letters as they are stored (T-03).
+#[test]
+fn owners_are_shown_in_their_stored_letters() {
+    let mut sides = Sides::new();
+    let mut random = Random::new(24);
+    let table = make::in_either_case(&mut random, &make::realistic().table);
+    let mut small = 0;
+    for index in 0..MOST {
+        let slot = index * RECORD + OWNER;
+        let part = sides.part(&table, index).expect("an owner");
+        assert_eq!(part, &table[slot + 1..slot + 1 + table[slot] as usize], "record {index}");
+        small += part.iter().any(u8::is_ascii_lowercase) as usize;
+    }
+    assert!(small > MOST / 2);
 }
 
 #[test]
@@ -583,6 +676,33 @@ fn generated_tables_are_judged_alike() {
     for (field, times) in fields.iter().enumerate() {
         assert!(*times > GENERATED / 100, "field {field} is at fault {times} times");
     }
+}
+
+/// Tables that are respelt.
+const RESPELT: usize = 50_000;
+
+/// A table respelt earns the same number, and its owners are shown as it spells them.
+#[test]
+fn generated_tables_respelt_are_judged_alike() {
+    let mut sides = Sides::new();
+    let mut random = Random::new(25);
+    let (mut made, mut table) = (Name::new(), Vec::new());
+    let mut met = Met::default();
+    for case in 0..RESPELT {
+        let records = random.between(1, 6);
+        make::good_table(&mut random, &mut made, records, &mut table);
+        let respelt = make::in_either_case(&mut random, &table);
+        let number = check(&respelt);
+        met.count(number);
+        assert_eq!(number, check(&table), "case {case}");
+        assert_eq!(number, plain::check(&respelt), "case {case}");
+        assert!(plain::same(&table, &respelt), "case {case}");
+        let index = random.below(records);
+        let slot = &respelt[index * RECORD + OWNER..];
+        let owner = (number == 0).then(|| &slot[1..1 + slot[0] as usize]);
+        assert_eq!(sides.part(&respelt, index), owner, "case {case}, index {index}");
+    }
+    met.are("check of respelt tables", &[0, 3], RESPELT / 10);
 }
 
 /// Tables of hundreds of records, in which DNAMEs share owners more often than not, and ones with few in common.

@@ -90,6 +90,7 @@ fn the_program_prints_what_01_says() {
             "20010db8000000000000000000000000\n20010db8000000000000000000000001\ndone 2 3\n",
         ),
         (examples::ignored(), "h.a", "20010db8000000000000000000000000\ndone 1 2\n"),
+        (examples::host(), "H.a", "20010db8000000050000000000000007\ndone 1 2\n"),
         (vec![], "h.a", "done 0 0\n"),
         (make::one_name(8, 8).table, "one.name", "refused 6\n"),
         (make::one_name(1, 64).table, "one.name", "refused 7\n"),
@@ -165,6 +166,7 @@ fn the_program_agrees_on_generated_input() {
             }
             1 => input[random.below(256)] ^= 1 << random.below(8),
             2 => input[0] = input[0].wrapping_add(random.pick(&[1, 255])),
+            3..=6 => names::mix_case(&mut random, &mut input[1..]),
             _ => {}
         }
         input.extend_from_slice(table);

@@ -1,4 +1,4 @@
-//! `a6plan_reverse` against the reference, the plain rules and the vectors (01, Reverse names).
+//! `a6plan_reverse` against the reference, the plain rules and the vectors (01, Reverse names; T-03).
 
 use a6plan_tests::generate::examples::{address, section_5_2};
 use a6plan_tests::generate::names::{self, Name};
@@ -7,7 +7,7 @@ use a6plan_tests::generate::reverse::{self as make, Walk};
 use a6plan_tests::generate::Random;
 use a6plan_tests::lent;
 use a6plan_tests::met::Met;
-use a6plan_tests::plain::names::{encode, whole, Unit};
+use a6plan_tests::plain::names::{encode, same, whole, Unit};
 use a6plan_tests::plain::reverse as plain;
 use a6plan_tests::reference::plan::{MOST, RECORD};
 use a6plan_tests::reference::reverse as reference;
@@ -173,11 +173,23 @@ fn put(query: &[u8], pairs: &str, end: &[u8]) -> Put {
     Put::Walk(table, address, encode(&end), 1)
 }
 
-/// 65 of the 68 rows are put. Left out are 3 whose query has an ordinary label at its low end and is itself an owner.
-/// The column ptr is not used: no PTR records are built here.
+/// The owners of a table respelt, and the targets as they are: a walk gives the same name octet for octet, since a
+/// rewrite keeps the letters below the owner and takes those of the target.
+fn with_owners_respelt(random: &mut Random, table: &[u8]) -> Vec<u8> {
+    let mut respelt = plan::in_either_case(random, table);
+    for (new, old) in respelt.chunks_exact_mut(RECORD).zip(table.chunks_exact(RECORD)) {
+        new[plan::TARGET..].copy_from_slice(&old[plan::TARGET..]);
+    }
+    respelt
+}
+
+/// 65 of the 68 rows are put, as they are and with their owners respelt: the servers do not know case. Left out are 3
+/// whose query has an ordinary label at its low end and is itself an owner. The column ptr is not used: no PTR records
+/// are built here.
 #[test]
 fn rows_of_dname_bits_are_walked() {
     let mut sides = Sides::new();
+    let mut random = Random::new(47);
     let (mut used, mut left_out) = (0, 0);
     for row in vectors::rows(vectors::DNAME_BITS) {
         let [_, query, pairs, end, query_wire, end_wire, rewrites, _ptr, _] = row[..] else { panic!("nine columns") };
@@ -186,7 +198,9 @@ fn rows_of_dname_bits_are_walked() {
         match put(&text::name(query), pairs, &text::name(end)) {
             Put::Walk(table, address, end, before) => {
                 let rewrites = before + rewrites.parse::<u32>().expect("a number");
-                assert_eq!(sides.end(&table, &address), (end, rewrites), "{query}");
+                let respelt = with_owners_respelt(&mut random, &table);
+                assert_eq!(sides.end(&table, &address), (end.clone(), rewrites), "{query}");
+                assert_eq!(sides.end(&respelt, &address), (end, rewrites), "{query}, owners respelt");
                 used += 1;
             }
             Put::LeftOut => left_out += 1,
@@ -195,11 +209,13 @@ fn rows_of_dname_bits_are_walked() {
     assert_eq!((used, left_out), (65, 3));
 }
 
-/// 36 of the 47 rows are put, two of them with a result over 255 octets. Left out are 11 whose query is itself an
-/// owner; all queries here have ordinary labels at their low ends.
+/// 36 of the 47 rows are put, as they are and with their owners respelt, two of them with a result over 255 octets. Left
+/// out are 11 whose query is itself an owner; all queries here have ordinary labels at their low ends. No row has the
+/// note "case" that the header speaks of.
 #[test]
 fn rows_of_dname_rewrite_are_walked() {
     let mut sides = Sides::new();
+    let mut random = Random::new(48);
     let (mut used, mut over, mut left_out) = (0, 0, 0);
     for row in vectors::rows(vectors::DNAME_REWRITE) {
         let [_, query, pairs, end, rewrites, _] = row[..] else { panic!("six columns: {row:?}") };
@@ -207,13 +223,17 @@ fn rows_of_dname_rewrite_are_walked() {
         let end = if too_long { query } else { end };
         match put(&text::name(query), pairs, &text::name(end)) {
             Put::Walk(table, address, ..) if too_long => {
-                assert_eq!(sides.within(&table, &address, 255), 8, "{query}");
-                assert_eq!(sides.within(&table, &address, 1), 6, "{query}");
+                for table in [with_owners_respelt(&mut random, &table), table] {
+                    assert_eq!(sides.within(&table, &address, 255), 8, "{query}");
+                    assert_eq!(sides.within(&table, &address, 1), 6, "{query}");
+                }
                 over += 1;
             }
             Put::Walk(table, address, end, before) => {
                 let rewrites = before + rewrites.parse::<u32>().expect("a number");
-                assert_eq!(sides.end(&table, &address), (end, rewrites), "{query}");
+                let respelt = with_owners_respelt(&mut random, &table);
+                assert_eq!(sides.end(&table, &address), (end.clone(), rewrites), "{query}");
+                assert_eq!(sides.end(&respelt, &address), (end, rewrites), "{query}, owners respelt");
                 used += 1;
             }
             Put::LeftOut => left_out += 1,
@@ -426,12 +446,12 @@ fn units_are_counted_and_not_labels_or_octets() {
     }
 }
 
-/// A bit is never an ordinary label, and letters count as they are.
+/// A bit is never an ordinary label, and octets that are no letters have no case.
 #[test]
 fn labels_that_only_look_like_the_name_do_not_apply() {
     let mut sides = Sides::new();
     for owner in
-        ["ip6.arpa", "Ip6.ARPA", "6.ARPA", "P6.ARPA", "IP6", "IP6.ARPA.ARPA", r"\048.IP6.ARPA", r"\001.IP6.ARPA"]
+        [r"IP\022.ARPA", "6.ARPA", "P6.ARPA", "IP6", "IP6.ARPA.ARPA", r"\048.IP6.ARPA", r"\001.IP6.ARPA", "a.IP6.ARPA"]
     {
         let table = dnames(&[(owner, "t")]);
         assert_eq!(sides.end(&table, &[0; 16]), (start(&[0; 16]), 0), "{owner}");
@@ -485,6 +505,186 @@ fn the_root_as_owner_and_as_target() {
     for limit in [0, 1, 63, 64, 65, 66, 255] {
         let number = if limit <= 64 { 6 } else { 8 };
         assert_eq!(sides.within(&table, &ADDRESS, limit), number, "limit {limit}");
+    }
+}
+
+// Letters of either case (T-03).
+
+/// All 64 spellings of IP6.ARPA.
+fn spellings() -> Vec<Vec<u8>> {
+    let letters = [1, 2, 5, 6, 7, 8];
+    let spelling = |cases: usize| {
+        let mut octets = name("IP6.ARPA");
+        for (at, place) in letters.iter().enumerate() {
+            octets[*place] ^= ((cases >> at & 1) as u8) << 5;
+        }
+        octets
+    };
+    (0..64).map(spelling).collect()
+}
+
+/// Owners at the tree itself, above it, and with some bits below it.
+#[test]
+fn every_spelling_of_the_tree_applies() {
+    let mut sides = Sides::new();
+    let all = spellings();
+    assert_eq!((&all[0], &all[63]), (&name("IP6.ARPA"), &name("ip6.arpa")));
+    assert!(all.contains(&name("Ip6.aRpA")));
+    for tree in &all {
+        let end = (bits(128, &ADDRESS, "t"), 1);
+        assert_eq!(sides.end(&dname_record(tree, &name("t")), &ADDRESS), end, "{tree:02x?}");
+        let end = (bits(128, &ADDRESS, "IP6.t"), 1);
+        assert_eq!(sides.end(&dname_record(&tree[4..], &name("t")), &ADDRESS), end, "{tree:02x?}");
+        for go in [1, 7, 8, 24, 64, 127] {
+            let table = dname_record(&under(go, &ADDRESS, tree), &name("t"));
+            let end = (bits(128 - go, &low(128 - go), "t"), 1);
+            assert_eq!(sides.end(&table, &ADDRESS), end, "{go} bits below {tree:02x?}");
+        }
+    }
+}
+
+/// The walk starts at IP6.ARPA in capitals, whatever the table has.
+#[test]
+fn the_walk_starts_in_capitals() {
+    let mut sides = Sides::new();
+    for tree in spellings() {
+        let own = dname_record(&under(128, &ADDRESS, &tree), &name("t"));
+        let other = dname_record(&under(8, &[0xff], &tree), &tree);
+        for table in [own, other] {
+            assert_eq!(sides.end(&table, &ADDRESS), (start(&ADDRESS), 0), "{tree:02x?}");
+        }
+    }
+}
+
+/// The units below the owner are spelt as in the name, those of the target as in the target; the owner's letters do not
+/// come up.
+#[test]
+fn a_rewrite_keeps_the_letters_below_and_takes_those_of_the_target() {
+    let mut sides = Sides::new();
+    let table = dnames(&[
+        ("ip6.ARPA", r"Host.\[x41/8].Sub.Net.Example"),
+        ("sUB.nET.eXAMPLE", "sub.NEW.Example"),
+        (r"\[x4/4].SUB.new.eXaMpLe", r"\[x6/4].oTHER"),
+    ]);
+    let host = [&start(&ADDRESS)[..18], &text::name(r"Host.\[x61/8].oTHER")].concat();
+    assert_eq!(sides.end(&table, &ADDRESS), (host, 3));
+    let host = [&start(&ADDRESS)[..18], &text::name(r"Host.\[x41/8].sub.NEW.Example")].concat();
+    assert_eq!(sides.end(&table[..2 * RECORD], &ADDRESS), (host, 2));
+}
+
+/// Every cut of the 128 bits of an address, with the rest of the owner in other letters.
+#[test]
+fn every_cut_of_an_address_with_the_rest_respelt() {
+    let mut sides = Sides::new();
+    let mut random = Random::new(49);
+    let all = spellings();
+    for go in 0..128 {
+        for more in [0, 1, 7, 8, 64] {
+            let target = bits(more, &[0x5a; 32], "Target");
+            let end = sides.end(&dname_record(&bits(go, &ADDRESS, "IP6.ARPA"), &target), &ADDRESS);
+            for _ in 0..8 {
+                let table = dname_record(&under(go, &ADDRESS, &all[random.below(64)]), &target);
+                assert_eq!(sides.end(&table, &ADDRESS), end, "{go} go, {more} more");
+            }
+        }
+    }
+}
+
+/// Bits of the owner that are those of the address but for the bit of case: an A for an a at each octet.
+#[test]
+fn an_owner_whose_bits_look_like_the_address_does_not_apply() {
+    let mut sides = Sides::new();
+    for at in 0..16 {
+        let mut other = [0x41; 16];
+        other[at] = 0x61;
+        for tree in ["IP6.ARPA", "ip6.arpa"] {
+            for count in [8 * at + 3, 8 * at + 8, 127] {
+                let table = dname_record(&bits(count, &other, tree), &name("t"));
+                assert_eq!(sides.end(&table, &[0x41; 16]), (start(&[0x41; 16]), 0), "octet {at}, {count} bits");
+            }
+        }
+    }
+}
+
+/// Owners of every number of units, in any order and any letters: the one with most units is used.
+#[test]
+fn the_owner_with_most_units_is_used_in_any_letters() {
+    let mut sides = Sides::new();
+    let mut random = Random::new(50);
+    let owner = |units: usize| if units == 1 { name("arpa") } else { bits(units - 2, &ADDRESS, "Ip6.Arpa") };
+    for most in 1..130 {
+        let mut records: Vec<[u8; RECORD]> =
+            (1..=most).map(|units| dname_record(&owner(units), &name(&format!("T{units}")))).collect();
+        random.shuffle(&mut records);
+        let table = with_owners_respelt(&mut random, &records.concat());
+        let mut kept = encode(&plain::start(&ADDRESS)[..130 - most]);
+        kept.pop();
+        let expected = [kept, name(&format!("T{most}"))].concat();
+        assert_eq!(sides.end(&table, &ADDRESS), (expected, 1), "{most} units");
+    }
+}
+
+/// A DNAME whose owner the name itself is, in other letters, does not apply to it.
+#[test]
+fn a_name_that_is_an_owner_in_other_letters_is_rewritten_from_above_only() {
+    let mut sides = Sides::new();
+    let own = dname_record(&bits(128, &ADDRESS, "ip6.arpa"), &name("own"));
+    assert_eq!(sides.end(&own, &ADDRESS), (start(&ADDRESS), 0));
+    let table = [own, dname_record(&name("arpa"), &name("t"))].concat();
+    assert_eq!(sides.end(&table, &ADDRESS), (bits(128, &ADDRESS, "IP6.t"), 1));
+}
+
+/// A walk that comes back to the tree in small letters goes on for ever, and takes their spelling.
+#[test]
+fn loops_through_other_letters_end_at_the_limit() {
+    let mut sides = Sides::new();
+    for table in [
+        dnames(&[("IP6.ARPA", "ip6.arpa")]),
+        dnames(&[("ip6.arpa", "A"), ("a", "B"), ("b", "Ip6.Arpa")]),
+        dnames(&[(r"\[x2/4].ip6.arpa", r"\[x1/3].T"), (r"\[x1/3].t", r"\[x2/4].IP6.ARPA")]),
+    ] {
+        for limit in 0..=255 {
+            assert_eq!(sides.within(&table, &ADDRESS, limit), 6, "limit {limit}");
+        }
+    }
+}
+
+/// The same rewrites, length and name as by `table`, the name perhaps in other letters; all octets are those of the
+/// plain rules.
+fn assert_same_end(sides: &mut Sides, table: &[u8], respelt: &[u8], address: &[u8], limit: u8) -> u32 {
+    let number = sides.within(table, address, limit);
+    let (end, rewrites) = sides.shown();
+    assert_eq!(sides.within(respelt, address, limit), number, "{address:02x?}");
+    let (other, again) = sides.shown();
+    assert_eq!((other.len(), again), (end.len(), rewrites), "{address:02x?}");
+    if number == 0 {
+        let units = [&end, &other].map(|name| whole(name).expect("a name"));
+        assert!(same(&units[0], &units[1]), "{end:02x?} and {other:02x?}");
+    }
+    assert_eq!(sides.0.answer(number), plain::lookup(respelt, address, limit, 255, 2), "{address:02x?}");
+    number
+}
+
+/// Every address of the realistic plan, owners and targets respelt at random, and the plan of the benchmark in which
+/// every second name is.
+#[test]
+fn the_realistic_plan_respelt_has_the_same_ends_but_for_spelling() {
+    let mut sides = Sides::new();
+    let mut random = Random::new(57);
+    let plan = realistic();
+    let mut tables = vec![plan.respelt().table];
+    tables.extend((0..3).map(|_| plan::in_either_case(&mut random, &plan.table)));
+    for table in &tables {
+        for address in &plan.addresses {
+            assert_eq!(assert_same_end(&mut sides, &plan.table, table, address, 3), 0);
+            assert_eq!(sides.shown().1, 3);
+            assert_eq!(assert_same_end(&mut sides, &plan.table, table, address, 2), 6);
+        }
+        let respelt = with_owners_respelt(&mut random, table);
+        for address in &plan.addresses {
+            let end = sides.end(table, address);
+            assert_eq!(sides.end(&respelt, address), end, "owners alone respelt");
+        }
     }
 }
 
@@ -624,6 +824,37 @@ fn generated(seed: u64) {
     met.are("reverse", &[0, 1, 2, 3, 4, 5, 6, 8], GENERATED / 100);
     println!("rewrites {:?}", &rewrites[..10]);
     assert!(rewrites[1..5].iter().all(|times| *times > GENERATED / 400), "{rewrites:?}");
+}
+
+/// Walks by tables that are respelt.
+const RESPELT: usize = 100_000;
+
+/// The same number, rewrites and length by a table and by the same table respelt, and the same name but for spelling;
+/// where the owners alone are respelt, the same octets.
+#[test]
+fn generated_walks_by_respelt_tables_have_the_same_ends_but_for_spelling() {
+    let mut sides = Sides::new();
+    let mut random = Random::new(58);
+    let (mut made, mut walk) = (Name::new(), Walk::default());
+    let mut met = Met::default();
+    let mut otherwise = 0;
+    for _ in 0..RESPELT {
+        make::walk(&mut random, &mut made, &mut walk);
+        let Walk { table, address } = &walk;
+        let limit = random.pick(&[1, 2, 3, 5, 8, 20]);
+        let respelt = plan::in_either_case(&mut random, table);
+        let number = assert_same_end(&mut sides, table, &respelt, address, limit);
+        met.count(number);
+        let other = sides.0.answer(number);
+        let number = sides.within(table, address, limit);
+        let end = sides.0.answer(number);
+        otherwise += (end != other) as usize;
+        let number = sides.within(&with_owners_respelt(&mut random, table), address, limit);
+        assert_eq!(sides.0.answer(number), end, "owners alone respelt");
+    }
+    met.are("reverse by respelt tables", &[0, 6, 8], RESPELT / 100);
+    println!("{otherwise} ends are spelt in another way");
+    assert!(otherwise > RESPELT / 10);
 }
 
 /// Tables of hundreds of DNAMEs: random owners above one address and its rewrites, and the realistic table.

@@ -204,8 +204,8 @@ unfolding keyOf
 keys-same m n h = ap encode h
 
 -- Theorem: names that have one standard form, the same names of 01, are the same: nothing that was equal before letters counted alike is lost
-pub standard-same : (m n : List ℕ) → Small m → Small n → wellFormed m ≡ true → wellFormed n ≡ true → standardOf m ≡ standardOf n → Same m n
-standard-same m n s t u v h = sym (key-standard m u) ∙ ap keyOctets h ∙ key-standard n v
+pub standard-same : (m n : List ℕ) → wellFormed m ≡ true → wellFormed n ≡ true → standardOf m ≡ standardOf n → Same m n
+standard-same m n u v h = sym (key-standard m u) ∙ ap keyOctets h ∙ key-standard n v
 
 -- Theorem: the key of a unit is its own key
 pub key-twice : (u : Unit) → keyUnit (keyUnit u) ≡ keyUnit u

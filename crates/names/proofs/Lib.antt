@@ -7,6 +7,7 @@ pub mod StandardSmall
 pub mod LowerLaws
 pub mod KeyLaws
 pub mod SameKeyLaws
+pub mod MatchingLaws
 pub mod AnswerLaws
 pub mod FrontLaws
 pub mod NameLaws

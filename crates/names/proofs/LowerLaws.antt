@@ -37,22 +37,3 @@ lower-twice x = go (lower-ways x)
     go : (lower x ≡ x) ⊎ ((64 < x) × (x < 91) × (lower x ≡ x + 32)) → lower (lower x) ≡ lower x
     go (inl e) = ap lower e
     go (inr e) = let k : 91 ≤ lower x = omega (arith, e .0, e .2) in lower-large (lower x) k
-
--- y is the letter from a to z of the letter x from A to Z
-abbrev pub Capital : ℕ → ℕ → Type 0
-Capital x y = (65 ≤ x) × (x ≤ 90) × (y ≡ x + 32)
-
--- Theorem: octets count alike exactly when they are equal or one of the 26 pairs of letters
-pub alike-pairs : (x y : ℕ) → lower x ≡ lower y → (x ≡ y) ⊎ (Capital x y ⊎ Capital y x)
-alike-pairs x y h = go (lower-ways x) (lower-ways y)
-  where
-    go : (lower x ≡ x) ⊎ ((64 < x) × (x < 91) × (lower x ≡ x + 32)) → (lower y ≡ y) ⊎ ((64 < y) × (y < 91) × (lower y ≡ y + 32)) → (x ≡ y) ⊎ (Capital x y ⊎ Capital y x)
-    go (inl e) (inl f) = inl (sym e ∙ h ∙ f)
-    go (inl e) (inr f) = inr (inr (omega (arith, f .0), omega (arith, f .1), sym e ∙ h ∙ f .2))
-    go (inr e) (inl f) = inr (inl (omega (arith, e .0), omega (arith, e .1), sym f ∙ sym h ∙ e .2))
-    go (inr e) (inr f) = inl (omega (arith, h, e .2, f .2))
-
-pub pairs-alike : (x y : ℕ) → (x ≡ y) ⊎ (Capital x y ⊎ Capital y x) → lower x ≡ lower y
-pairs-alike x y (inl e) = ap lower e
-pairs-alike x y (inr (inl e)) = lower-letter x (omega (arith, e .0)) (omega (arith, e .1)) ∙ sym (e .2) ∙ sym (lower-large y (omega (arith, e .0, e .2)))
-pairs-alike x y (inr (inr e)) = lower-large x (omega (arith, e .0, e .2)) ∙ e .2 ∙ sym (lower-letter y (omega (arith, e .0)) (omega (arith, e .1)))

@@ -5,7 +5,7 @@ use mathlib.Core.Bool.{Bool, true, false, _&&_}
 use mathlib.Core.List.{List, [], _∷_, map, tail-eq-of-cons-eq, head-eq-of-cons-eq}
 use lib.Dec.{eqb}
 use lib.ListN.{length, getD, take, drop, drop-of-length-le, List·getD-map}
-use lib.Seq.{drop-cons, drop-drop, getD-drop}
+use lib.Seq.{drop-cons, drop-drop, getD-drop, getD-take, take-length, length-take-le}
 use native.Mathlib.Omega.{arith}
 use borrow.Author.Tests.{eq-eqb, ne-eqb, eqb-true, eqb-false}
 use Rattle.octets.specs.Octets.{sameBy, same}
@@ -14,7 +14,7 @@ use Rattle.labels.specs.Labels.{countFor}
 use Rattle.octets.proofs.SameLaws.{same-eq, same-refl, same-unlike}
 use Rattle.octets.proofs.BoolLaws.{and-true, and-false, clash, refuted}
 use Rattle.names.specs.Standard.{lower}
-use Rattle.names.specs.Keys.{octetKey, keyFrom, keyOctets, walked}
+use Rattle.names.specs.Keys.{octetKey, keyFrom, keyOctets, walked, Past}
 use Rattle.names.proofs.KeyLaws.{keys-length, keys-lowered, key-begins, begins-ordinary, begins-bits, bitSize}
 
 -- lists of other lengths have other keys
@@ -108,23 +108,15 @@ and-turn true true q = sym (and-true q)
 and-turn true false q = sym (and-false q)
 and-turn false p q = refl
 
--- what holds where all octets are the same in lower case
 when : (s p q : Bool) → (s ≡ true → p ≡ q) → (s && p) ≡ (s && q)
 when true p q h = h refl
 when false p q h = refl
 
-module _ (a b : List ℕ) where
-  pub walk-whole : walked a b 0 ≡ same (keyOctets a) (keyOctets b)
-  unfolding walked
-  walk-whole = go (same (keyOctets a) (keyOctets b)) refl
-    where
-      go : (t : Bool) → same (keyOctets a) (keyOctets b) ≡ t → (same (map lower a) (map lower b) && same (keyOctets a) (keyOctets b)) ≡ same (keyOctets a) (keyOctets b)
-      go true e = rw (e, keys-lowered a b (same-eq (keyOctets a) (keyOctets b) e), same-refl (map lower b))
-      go false e = rw e (and-false (same (map lower a) (map lower b)))
-
-  pub walk-end : (at : ℕ) → length a ≤ at → length b ≤ at → walked a b at ≡ same (map lower a) (map lower b)
-  unfolding walked keyOctets keyFrom sameBy
-  walk-end at p q = rw (drop-of-length-le a {i = at} p, drop-of-length-le b {i = at} q) (and-true (same (map lower a) (map lower b)))
+-- two names, and a test `l` that all their octets are the same in lower case
+module _ (a b : List ℕ) (l : Bool) (c : l ≡ true → map lower a ≡ map lower b) where
+  left-end : (at : ℕ) → length a ≤ at → length b ≤ at → (l && sameKeys (drop at a) (drop at b)) ≡ l
+  unfolding keyOctets keyFrom sameBy
+  left-end at p q = rw (drop-of-length-le a {i = at} p, drop-of-length-le b {i = at} q) (and-true l)
 
   module _ (at : ℕ) (p : at < length a) (q : at < length b) where
     -- what is left from a place on begins with the octet there
@@ -134,11 +126,8 @@ module _ (a b : List ℕ) where
     left-b : drop at b ≡ getD b at 0 ∷ drop (suc at) b
     left-b = drop-cons b at 0 q
 
-    pub walk-other : (getD a at 0 ≡ getD b at 0 → ⊥) → walked a b at ≡ false
-    unfolding walked
-    walk-other h =
-        ap (λ (t : Bool). same (map lower a) (map lower b) && t) (ap₂ (λ (xs ys : List ℕ). same (keyOctets xs) (keyOctets ys)) left-a left-b ∙ begun-other (getD a at 0) (getD b at 0) (drop (suc at) a) (drop (suc at) b) h)
-        ∙ and-false (same (map lower a) (map lower b))
+    left-other : (getD a at 0 ≡ getD b at 0 → ⊥) → (l && sameKeys (drop at a) (drop at b)) ≡ false
+    left-other h = ap (λ (t : Bool). l && t) (ap₂ sameKeys left-a left-b ∙ begun-other (getD a at 0) (getD b at 0) (drop (suc at) a) (drop (suc at) b) h) ∙ and-false l
 
     module _ (e : getD a at 0 ≡ getD b at 0) where
       left-same : drop at b ≡ getD a at 0 ∷ drop (suc at) b
@@ -148,25 +137,88 @@ module _ (a b : List ℕ) where
       left-on : (k n : ℕ) → k ≡ at + 1 + n → (xs : List ℕ) → drop n (drop (suc at) xs) ≡ drop k xs
       left-on k n z xs = let i : suc at + n ≡ k = omega arith in drop-drop n (suc at) xs ∙ ap (λ (j : ℕ). drop j xs) i
 
-      pub walk-letters : (k : ℕ) → k ≡ at + 1 + getD a at 0 → (getD a at 0 ≡ 65 → ⊥) → walked a b at ≡ walked a b k
-      unfolding walked
-      walk-letters k z h = when (same (map lower a) (map lower b)) (same (keyOctets (drop at a)) (keyOctets (drop at b))) (same (keyOctets (drop k a)) (keyOctets (drop k b))) go
+      left-letters : (k : ℕ) → k ≡ at + 1 + getD a at 0 → (getD a at 0 ≡ 65 → ⊥) → (l && sameKeys (drop at a) (drop at b)) ≡ (l && sameKeys (drop k a) (drop k b))
+      left-letters k z h = when l (sameKeys (drop at a) (drop at b)) (sameKeys (drop k a) (drop k b)) go
         where
-          go : same (map lower a) (map lower b) ≡ true → same (keyOctets (drop at a)) (keyOctets (drop at b)) ≡ same (keyOctets (drop k a)) (keyOctets (drop k b))
+          go : l ≡ true → sameKeys (drop at a) (drop at b) ≡ sameKeys (drop k a) (drop k b)
           go s =
-              let l : map lower (drop (suc at) a) ≡ map lower (drop (suc at) b) = map-drop (suc at) a ∙ ap (drop (suc at)) (same-eq (map lower a) (map lower b) s) ∙ sym (map-drop (suc at) b) in
-              ap₂ sameKeys left-a left-same ∙ begun-letters (getD a at 0) (drop (suc at) a) (drop (suc at) b) h l ∙ ap₂ sameKeys (left-on k (getD a at 0) z a) (left-on k (getD a at 0) z b)
+              let m : map lower (drop (suc at) a) ≡ map lower (drop (suc at) b) = map-drop (suc at) a ∙ ap (drop (suc at)) (c s) ∙ sym (map-drop (suc at) b) in
+              ap₂ sameKeys left-a left-same ∙ begun-letters (getD a at 0) (drop (suc at) a) (drop (suc at) b) h m ∙ ap₂ sameKeys (left-on k (getD a at 0) z a) (left-on k (getD a at 0) z b)
 
-      pub walk-bits : (k n : ℕ) → n ≡ 1 + octetsFor (countFor (getD a (at + 1) 0)) → k ≡ at + 1 + n → getD a at 0 ≡ 65
-          → walked a b at ≡ (walked a b k && same (take n (drop (at + 1) a)) (take n (drop (at + 1) b)))
-      unfolding walked
-      walk-bits k n m z h =
-          let l = same (map lower a) (map lower b) in
+      left-bits : (k n : ℕ) → n ≡ 1 + octetsFor (countFor (getD a (at + 1) 0)) → k ≡ at + 1 + n → getD a at 0 ≡ 65
+          → (l && sameKeys (drop at a) (drop at b)) ≡ ((l && sameKeys (drop k a) (drop k b)) && same (take n (drop (at + 1) a)) (take n (drop (at + 1) b)))
+      left-bits k n m z h =
           let i : at + 1 ≡ suc at = omega arith in
           let o : suc at + 0 ≡ at + 1 = omega arith in
-          let c : bitSize (drop (suc at) a) ≡ n = ap (λ (d : ℕ). 1 + octetsFor (countFor d)) (getD-drop (suc at) a 0 0 ∙ ap (λ (j : ℕ). getD a j 0) o) ∙ sym m in
+          let d : bitSize (drop (suc at) a) ≡ n = ap (λ (x : ℕ). 1 + octetsFor (countFor x)) (getD-drop (suc at) a 0 0 ∙ ap (λ (j : ℕ). getD a j 0) o) ∙ sym m in
           let g = begun-bits (getD a at 0) (drop (suc at) a) (drop (suc at) b) h in
-          let f : same (keyOctets (drop at a)) (keyOctets (drop at b)) ≡ (same (take n (drop (suc at) a)) (take n (drop (suc at) b)) && same (keyOctets (drop k a)) (keyOctets (drop k b))) =
-          ap₂ sameKeys left-a left-same ∙ g ∙ ap (λ (j : ℕ). same (take j (drop (suc at) a)) (take j (drop (suc at) b)) && sameKeys (drop j (drop (suc at) a)) (drop j (drop (suc at) b))) c
+          let f : sameKeys (drop at a) (drop at b) ≡ (same (take n (drop (suc at) a)) (take n (drop (suc at) b)) && sameKeys (drop k a) (drop k b)) =
+          ap₂ sameKeys left-a left-same ∙ g ∙ ap (λ (j : ℕ). same (take j (drop (suc at) a)) (take j (drop (suc at) b)) && sameKeys (drop j (drop (suc at) a)) (drop j (drop (suc at) b))) d
           ∙ ap₂ (λ (xs ys : List ℕ). same (take n (drop (suc at) a)) (take n (drop (suc at) b)) && sameKeys xs ys) (left-on k n z a) (left-on k n z b) in
-          rw (i, f) (and-turn l (same (take n (drop (suc at) a)) (take n (drop (suc at) b))) (same (keyOctets (drop k a)) (keyOctets (drop k b))))
+          rw (i, f) (and-turn l (same (take n (drop (suc at) a)) (take n (drop (suc at) b))) (sameKeys (drop k a) (drop k b)))
+
+-- ---- the walk over two lists in which names stand up to `end`
+pub map-take : (k : ℕ) (xs : List ℕ) → map lower (take k xs) ≡ take k (map lower xs)
+map-take zero xs = refl
+map-take (suc k) [] = refl
+map-take (suc k) (x ∷ xs) = ap (λ (ys : List ℕ). lower x ∷ ys) (map-take k xs)
+
+module _ (a b : List ℕ) (end : ℕ) (z : length a ≡ length b) (m : end ≤ length a) where
+  -- all octets are the same in lower case: so are those of the names
+  abbrev all : Bool
+  all = same (map lower a) (map lower b)
+
+  in-names : all ≡ true → map lower (take end a) ≡ map lower (take end b)
+  in-names h = map-take end a ∙ ap (take end) (same-eq (map lower a) (map lower b) h) ∙ sym (map-take end b)
+
+  size-a : length (take end a) ≡ end
+  size-a = length-take-le end a m
+
+  size-b : length (take end b) ≡ end
+  size-b = length-take-le end b (omega arith)
+
+  pub walk-end : (at : ℕ) → end ≤ at → walked a b end at ≡ all
+  unfolding walked
+  walk-end at h = left-end (take end a) (take end b) all in-names at (omega (arith, size-a)) (omega (arith, size-b))
+
+  module _ (at : ℕ) (h : at < end) where
+    octet-a : getD (take end a) at 0 ≡ getD a at 0
+    octet-a = getD-take end a at 0 h
+
+    octet-b : getD (take end b) at 0 ≡ getD b at 0
+    octet-b = getD-take end b at 0 h
+
+    pub walk-other : (getD a at 0 ≡ getD b at 0 → ⊥) → walked a b end at ≡ false
+    unfolding walked
+    walk-other u =
+        left-other (take end a) (take end b) all in-names at (omega (arith, size-a)) (omega (arith, size-b)) (λ e. u (sym octet-a ∙ e ∙ octet-b))
+
+    module _ (e : getD a at 0 ≡ getD b at 0) where
+      pub walk-letters : (k : ℕ) → k ≡ at + 1 + getD a at 0 → (getD a at 0 ≡ 65 → ⊥) → walked a b end at ≡ walked a b end k
+      unfolding walked
+      walk-letters k y u =
+          left-letters (take end a) (take end b) all in-names at (omega (arith, size-a)) (omega (arith, size-b)) (octet-a ∙ e ∙ sym octet-b) k (omega (arith, octet-a)) (λ f. u (sym octet-a ∙ f))
+
+      pub walk-bits : (k n : ℕ) → n ≡ 1 + octetsFor (countFor (getD (take end a) (at + 1) 0)) → k ≡ at + 1 + n → getD a at 0 ≡ 65
+          → walked a b end at ≡ (walked a b end k && same (take n (drop (at + 1) (take end a))) (take n (drop (at + 1) (take end b))))
+      unfolding walked
+      walk-bits k n q y u =
+          left-bits (take end a) (take end b) all in-names at (omega (arith, size-a)) (omega (arith, size-b)) (octet-a ∙ e ∙ sym octet-b) k n q y (octet-a ∙ u)
+
+-- what the walk from a place on finds, where the names have the same keys only if all octets are the same in lower case
+pub walk-found : (a b : List ℕ) (end at : ℕ) → (same (keyOctets (drop at (take end a))) (keyOctets (drop at (take end b))) ≡ true → map lower a ≡ map lower b)
+    → walked a b end at ≡ same (keyOctets (drop at (take end a))) (keyOctets (drop at (take end b)))
+unfolding walked
+walk-found a b end at h = go (same (keyOctets (drop at (take end a))) (keyOctets (drop at (take end b)))) refl
+  where
+    go : (t : Bool) → same (keyOctets (drop at (take end a))) (keyOctets (drop at (take end b))) ≡ t
+        → (same (map lower a) (map lower b) && same (keyOctets (drop at (take end a))) (keyOctets (drop at (take end b)))) ≡ same (keyOctets (drop at (take end a))) (keyOctets (drop at (take end b)))
+    go true e = rw (h e, same-refl (map lower b))
+    go false e = rw e (and-false (same (map lower a) (map lower b)))
+
+-- of whole lists: those whose keys are the same are the same in lower case
+pub walk-whole : (a b : List ℕ) → length a ≡ length b → walked a b (length a) 0 ≡ same (keyOctets a) (keyOctets b)
+walk-whole a b z =
+    let p = take-length a in
+    let q : take (length a) b ≡ b = ap (λ (n : ℕ). take n b) z ∙ take-length b in
+    walk-found a b (length a) 0 (λ h. keys-lowered a b (sym (ap keyOctets p) ∙ same-eq (keyOctets (take (length a) a)) (keyOctets (take (length a) b)) h ∙ ap keyOctets q)) ∙ ap₂ sameKeys p q

@@ -1,9 +1,10 @@
 -- Keys read off the octets of a name, one octet after the other: the code's own, nothing that a reader must believe.
-use Prim.Native.Nat.{ℕ, zero, suc, _-_}
+use Prim.Native.Nat.{ℕ, zero, suc, _-_, _≤_, _<_}
+use mathlib.Core.Path.{_≡_}
 use mathlib.Core.Bool.{Bool, true, false, not, _&&_}
 use mathlib.Core.List.{List, [], _∷_, map}
 use lib.Dec.{eqb}
-use lib.ListN.{drop}
+use lib.ListN.{getD, take, drop}
 use Rattle.octets.specs.Octets.{sameBy, same}
 use Rattle.labels.specs.Labels.{sizeOf}
 use Rattle.names.specs.Standard.{lower}
@@ -25,7 +26,14 @@ unfoldable pub keyOctets : List ℕ → List ℕ
 unfolding keyFrom
 keyOctets xs = keyFrom false 0 xs
 
--- what a walk over two names finds from a place on: all octets are the same in lower case, and what is left has the same keys
-unfoldable pub walked : List ℕ → List ℕ → ℕ → Bool
+-- what a walk over two lists finds, where names stand in them up to `end`, from a place on: all octets are the same in lower case, and what is left of the
+-- names has the same keys
+unfoldable pub walked : List ℕ → List ℕ → ℕ → ℕ → Bool
 unfolding sameBy keyOctets
-walked a b at = same (map lower a) (map lower b) && same (keyOctets (drop at a)) (keyOctets (drop at b))
+walked a b end at = same (map lower a) (map lower b) && same (keyOctets (drop at (take end a))) (keyOctets (drop at (take end b)))
+
+-- a walk from one place on finds what it finds from a later one on, where it is at the end, or labels begin that differ, or bit labels
+pub record Past (a b : List ℕ) (end at r : ℕ) : Type 0 where
+  pub on : at ≤ r
+  pub kept : walked a b end r ≡ walked a b end at
+  pub bits : r < end → getD a r 0 ≡ getD b r 0 → getD a r 0 ≡ 65

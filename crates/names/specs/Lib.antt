@@ -1,4 +1,5 @@
 pub mod Standard
+pub mod Matching
 pub mod Name
 pub mod Answers
 pub mod Keys

@@ -9,7 +9,7 @@ ghost use Rattle.bits.specs.Bits.{octetsFor};
 ghost use Rattle.labels.specs.Labels.{countFor};
 ghost use Rattle.labels.specs.Scan.{scanOf, wellFormed};
 ghost use Rattle.names.specs.Standard.{standardOf, lower, sameName, inStandardForm};
-ghost use Rattle.names.specs.Keys.{keyOctets, walked};
+ghost use Rattle.names.specs.Keys.{keyOctets, walked, Past};
 ghost use Rattle.labels.specs.Answers.{scanned};
 
 // The standard form of a well-formed name over zeros, and its length; `standard` is what a scan says of the name.
@@ -59,7 +59,8 @@ fn respelt(a: &[u8], b: &[u8], i: usize) -> bool
     if lowered(a[i]) != lowered(b[i]) {
         return false;
     }
-    same_labels(a, b, 0)
+    // Lent on by `[..]` and not by their own names, the slices stay in registers; so below.
+    same_labels(&a[..], &b[..], 0, a.len())
 }
 
 // A letter from A to Z as the one from a to z; every other octet as it is.
@@ -75,30 +76,45 @@ fn lowered(x: u8) -> u8
     x + 32
 }
 
-// Whether all octets are the same in lower case, and the labels from `at` on have the same keys. At the end of the name the octets are compared as if
-// all were letters; what is no letter is compared label by label. The labels above a bit label come before its bits: as a function that does not end in
-// its own call this one stays apart from its callers, and they stay short.
-fn same_labels(a: &[u8], b: &[u8], at: usize) -> bool
-    requires { ⌜ length (now a) ≡ length (now b) ⌝ }
-    ensures { λ r. ⌜ r ≡ walked (now (a .entry)) (now (b .entry)) at ⌝ }
+// Whether all octets are the same in lower case, and the labels from `at` to `end` have the same keys. At the end all octets are compared as if they were
+// letters; what is no letter is compared label by label. The labels above a bit label come before its bits: as a function that does not end in its own
+// call this one stays apart from its callers, and they stay short.
+pub fn same_labels(a: &[u8], b: &[u8], at: usize, end: usize) -> bool
+    requires { ⌜ (length (now a) ≡ length (now b)) × (end ≤ length (now a)) ⌝ }
+    ensures { λ r. ⌜ r ≡ walked (now (a .entry)) (now (b .entry)) end at ⌝ }
 {
-    let n = a.len();
-    if n <= at {
+    let i = past_letters(a, b, at, end);
+    if end <= i {
         return same_lowered(a, b);
     }
-    let x = a[at];
-    if x != b[at] {
+    if a[i] != b[i] {
         return false;
     }
-    let from = at + 1;
-    if x != 65 {
-        return same_labels(a, b, from + octets::wide(x));
-    }
-    let size = bit_octets(a, from);
-    if !same_labels(a, b, from + size) {
+    let from = i + 1;
+    let size = bit_octets(a, from, end);
+    if !same_labels(&a[..], &b[..], from + size, end) {
         return false;
     }
-    same_part(a, b, from, size)
+    same_part(a, b, from, size, end)
+}
+
+// The first place from `at` on where no ordinary label begins that has one length in both.
+fn past_letters(a: &[u8], b: &[u8], at: usize, end: usize) -> usize
+    requires { ⌜ (length (now a) ≡ length (now b)) × (end ≤ length (now a)) ⌝ }
+    ensures { λ r. ⌜ Past (now (a .entry)) (now (b .entry)) end at r ⌝ }
+{
+    let mut i = at;
+    while i < end {
+        let x = a[i];
+        if x != b[i] {
+            return i;
+        }
+        if x == 65 {
+            return i;
+        }
+        i += 1 + octets::wide(x);
+    }
+    i
 }
 
 // Whether all octets are the same in lower case. Every one is looked at, which is faster than to stop at the first.
@@ -118,25 +134,25 @@ fn same_lowered(a: &[u8], b: &[u8]) -> bool
     alike
 }
 
-// The octets of a bit label from its count octet on, which stands at i; one that is missing counts as zero.
-fn bit_octets(name: &[u8], i: usize) -> usize
-    ensures { λ r. ⌜ (r ≡ 1 + octetsFor (countFor (getD (now (name .entry)) i 0))) × (r ≤ 33) ⌝ }
+// The octets of a bit label from its count octet on, which stands at i before `end`; one that is missing counts as zero.
+fn bit_octets(name: &[u8], i: usize, end: usize) -> usize
+    requires { ⌜ end ≤ length (now name) ⌝ }
+    ensures { λ r. ⌜ (r ≡ 1 + octetsFor (countFor (getD (take end (now (name .entry))) i 0))) × (r ≤ 33) ⌝ }
 {
-    if name.len() <= i {
+    if end <= i {
         return 33;
     }
     1 + (labels::inside::count(name[i]) + 7) / 8
 }
 
-// Whether so many octets from a place on are the same; as many as there are where they are fewer.
-fn same_part(a: &[u8], b: &[u8], i: usize, size: usize) -> bool
-    requires { ⌜ (length (now a) ≡ length (now b)) × (i ≤ length (now a)) × (size ≤ 33) ⌝ }
-    ensures { λ r. ⌜ r ≡ same (take size (drop i (now (a .entry)))) (take size (drop i (now (b .entry)))) ⌝ }
+// Whether so many octets from a place on are the same; as many as there are before `end` where they are fewer.
+fn same_part(a: &[u8], b: &[u8], i: usize, size: usize, end: usize) -> bool
+    requires { ⌜ (length (now a) ≡ length (now b)) × (end ≤ length (now a)) × (i ≤ end) × (size ≤ 33) ⌝ }
+    ensures { λ r. ⌜ r ≡ same (take size (drop i (take end (now (a .entry))))) (take size (drop i (take end (now (b .entry))))) ⌝ }
 {
-    let n = a.len();
     let e = i + size;
-    if e <= n {
+    if e <= end {
         return octets::equal(&a[i..e], &b[i..e]);
     }
-    octets::equal(&a[i..], &b[i..])
+    octets::equal(&a[i..end], &b[i..end])
 }

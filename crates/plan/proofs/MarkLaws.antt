@@ -20,6 +20,7 @@ use Rattle.plan.specs.First.{some}
 use Rattle.plan.specs.Check.{twin, repeats}
 use Rattle.plan.specs.Good.{Holds}
 use Rattle.plan.specs.Marks.{caseless, termAt, sumTo, sumOf, markOf, markAt, Marked, Ready, among}
+use Rattle.plan.proofs.SlotLaws.{lowered-length, lowered-slot}
 use Rattle.plan.proofs.FirstLaws.{none-first, none-some}
 use Rattle.plan.proofs.OrderLaws.{sound-good}
 
@@ -78,18 +79,9 @@ lowered-case xs ys h i =
     let e : lower (getD xs i 0) ≡ lower (getD ys i 0) = sym (List·getD-map lower xs i 0) ∙ ap (λ (l : List ℕ). getD l i (lower 0)) h ∙ List·getD-map lower ys i 0 in
     sym (lower-case (getD xs i 0)) ∙ ap caseless e ∙ lower-case (getD ys i 0)
 
--- names that are the same in lower case: so are their lengths, their slots in lower case, and their marks
-module _ (m n : List ℕ) (h : map lower m ≡ map lower n) where
-  lowered-length : length m ≡ length n
-  lowered-length = sym (length-map m lower) ∙ ap length h ∙ length-map n lower
-
-  lowered-slot : map lower (slotOf m) ≡ map lower (slotOf n)
-  unfolding slotOf
-  lowered-slot = rw (map-append lower m (blank (nameRoom - length m)), map-append lower n (blank (nameRoom - length n)), h, lowered-length)
-
-  slot-mark : markOf (slotOf m) ≡ markOf (slotOf n)
-  unfolding slotOf
-  slot-mark = case-mark (slotOf m) (slotOf n) lowered-length (lowered-case (slotOf m) (slotOf n) lowered-slot)
+slot-mark : (m n : List ℕ) → map lower m ≡ map lower n → markOf (slotOf m) ≡ markOf (slotOf n)
+unfolding slotOf
+slot-mark m n h = case-mark (slotOf m) (slotOf n) (lowered-length m n h) (lowered-case (slotOf m) (slotOf n) (lowered-slot m n h))
 
 -- Theorem: slots of the same name have the same mark; the one law that ties marks to the equality of names
 pub same-mark : (s s′ : List ℕ) → Holds s → Holds s′ → sameName (nameIn s) (nameIn s′) ≡ true → markOf s ≡ markOf s′

@@ -1,18 +1,21 @@
 -- Laws of slots.
-use Prim.Native.Nat.{ℕ, _+_, _-_, _≤_, _<_}
-use mathlib.Core.Path.{_≡_, refl, ap, _∙_, sym}
+use Prim.Native.Nat.{ℕ, zero, suc, _+_, _-_, _≤_, _<_}
+use mathlib.Core.Path.{_≡_, refl, ap, ap₂, _∙_, sym}
 use mathlib.Core.Bool.{Bool, true, false}
-use mathlib.Core.List.{List, _∷_, _++_}
-use lib.ListN.{length, getD, take, drop, length-append, length-drop, take-append-drop}
-use lib.Seq.{paste, length-take-le, take-length, take-append-seam, drop-drop, drop-cons, drop-at}
+use mathlib.Core.List.{List, [], _∷_, _++_, map, map-append}
+use lib.ListN.{length, getD, take, drop, length-append, length-drop, length-map, take-append-drop}
+use lib.Seq.{paste, length-take-le, take-length, take-take, take-append-seam, drop-drop, drop-cons, drop-at}
 use native.Mathlib.Omega.{arith}
-use Rattle.octets.proofs.BoolLaws.{and-false, and-true}
+use Rattle.octets.proofs.BoolLaws.{and-false, and-true, refuted}
 use Rattle.octets.specs.Octets.{blank, same, Small}
 use Rattle.octets.specs.Zeros.{isBlank}
 use Rattle.octets.proofs.OctetLaws.{length-blank, drop-blank, small-take, small-drop}
 use Rattle.octets.proofs.SameLaws.{same-eq, same-refl}
 use Rattle.octets.proofs.ZeroLaws.{blank-eq}
-use Rattle.names.specs.Standard.{inStandardForm}
+use Rattle.names.specs.Standard.{lower, sameName, inStandardForm}
+use Rattle.names.specs.Keys.{keyOctets, walked}
+use Rattle.names.proofs.KeyLaws.{same-keys, same-lowered}
+use Rattle.names.proofs.SameKeyLaws.{map-take, walk-found}
 use Rattle.plan.specs.Layout.{nameRoom, slotSize, nameIn, slotOf}
 use Rattle.plan.specs.Check.{slotGood, slotEmpty}
 use Rattle.plan.specs.Good.{Holds}
@@ -99,3 +102,49 @@ name-made name = take-append-seam name (blank (nameRoom - length name))
 
 pub holds-made : (name : List ℕ) → inStandardForm name ≡ true → Holds (slotOf name)
 holds-made name h = let e = name-made name in record { name = rw e h; whole = rw e }
+
+-- names that are the same in lower case: so are their lengths, and their slots
+module _ (m n : List ℕ) (h : map lower m ≡ map lower n) where
+  pub lowered-length : length m ≡ length n
+  lowered-length = sym (length-map m lower) ∙ ap length h ∙ length-map n lower
+
+  pub lowered-slot : map lower (slotOf m) ≡ map lower (slotOf n)
+  unfolding slotOf
+  lowered-slot = rw (map-append lower m (blank (nameRoom - length m)), map-append lower n (blank (nameRoom - length n)), h, lowered-length)
+
+-- the name in a slot, found in its first octets, of which there are enough
+drop-first : (n : ℕ) (xs : List ℕ) → drop 1 (take (suc n) xs) ≡ take n (drop 1 xs)
+drop-first zero [] = refl
+drop-first (suc n) [] = refl
+drop-first n (x ∷ xs) = refl
+
+name-within : (s : List ℕ) (k n : ℕ) → 1 + n ≤ k → drop 1 (take (1 + n) (take k s)) ≡ take n (drop 1 s)
+name-within s k n h = let e : 1 + n ≡ suc n = omega arith in rw e (ap (drop 1) (take-take (suc n) k s (omega arith)) ∙ drop-first n s)
+
+-- two slots whose names have one length: a walk over the labels of so many of their octets tells whether the names are the same
+module _ (a b : List ℕ) (p : Holds a) (q : Holds b) (e : getD a 0 0 ≡ getD b 0 0) (k : ℕ) (h : 1 + getD a 0 0 ≤ k) where
+  slots-alike : sameName (nameIn a) (nameIn b) ≡ true → map lower (take k a) ≡ map lower (take k b)
+  slots-alike s =
+      let m : map lower a ≡ map lower b = ap (map lower) (p .whole) ∙ lowered-slot (nameIn a) (nameIn b) (same-lowered (nameIn a) (nameIn b) (p .name) (q .name) s) ∙ ap (map lower) (sym (q .whole)) in
+      map-take k a ∙ ap (take k) m ∙ sym (map-take k b)
+
+  -- the parts that are compared are the names
+  part-a : drop 1 (take (1 + getD a 0 0) (take k a)) ≡ nameIn a
+  unfolding nameIn
+  part-a = name-within a k (getD a 0 0) h
+
+  part-b : drop 1 (take (1 + getD a 0 0) (take k b)) ≡ nameIn b
+  unfolding nameIn
+  part-b = name-within b k (getD a 0 0) h ∙ ap (λ (n : ℕ). take n (drop 1 b)) e
+
+  part-keys : same (keyOctets (drop 1 (take (1 + getD a 0 0) (take k a)))) (keyOctets (drop 1 (take (1 + getD a 0 0) (take k b)))) ≡ sameName (nameIn a) (nameIn b)
+  part-keys = ap₂ (λ (x y : List ℕ). same (keyOctets x) (keyOctets y)) part-a part-b ∙ same-keys (nameIn a) (nameIn b) (p .name) (q .name)
+
+  pub slots-walked : walked (take k a) (take k b) (1 + getD a 0 0) 1 ≡ sameName (nameIn a) (nameIn b)
+  slots-walked = walk-found (take k a) (take k b) (1 + getD a 0 0) 1 (λ s. slots-alike (sym part-keys ∙ s)) ∙ part-keys
+
+-- slots whose names have other lengths hold other names
+pub slots-unlike : (a b : List ℕ) → length a ≡ slotSize → length b ≡ slotSize → getD a 0 0 < 256 → getD b 0 0 < 256 → Holds a → Holds b → (getD a 0 0 ≡ getD b 0 0 → ⊥)
+    → sameName (nameIn a) (nameIn b) ≡ false
+slots-unlike a b m n o u p q h =
+    refuted (sameName (nameIn a) (nameIn b)) (λ s. h (sym (name-length a m o) ∙ lowered-length (nameIn a) (nameIn b) (same-lowered (nameIn a) (nameIn b) (p .name) (q .name) s) ∙ name-length b n u))

@@ -6,3 +6,4 @@ pub mod Good
 pub mod Marks
 pub mod Part
 pub mod Graph
+pub mod Respelt

@@ -5,12 +5,13 @@ ghost use Prim.Native.Nat.{_+_, _*_, _^_, _≤_, _<_};
 ghost use lib.Dec.{eqb};
 ghost use lib.ListN.{length, getD};
 ghost use lib.Seq.{paste};
-ghost use Rattle.names.specs.Standard.{sameName, inStandardForm};
+ghost use Rattle.names.specs.Standard.{sameName};
 ghost use Rattle.chains.specs.Lists.{pick};
 ghost use Rattle.plan.specs.Layout.{recordSize, maxRecords, ownerPlace, nameRoom, slotSize, typeOf, prefixOf, zeroOf, addressOf, ownerSlot, targetSlot, ttlOf, nameIn, slotOf, recordOf, countOf, recordAt, prefixAt, addressAt, ownerAt, targetAt, ttlAt};
 ghost use Rattle.plan.specs.Records.{typeAt};
 ghost use Rattle.names.specs.Name.{heldOf};
 ghost use Rattle.plan.specs.Check.{targetless, entryNumber};
+ghost use Rattle.plan.specs.Good.{Holds};
 ghost use Rattle.plan.specs.Marks.{wordAt, pairAt, maskedAt, termAt, sumTo, sumOf, markOf, alikeOf};
 ghost use Rattle.plan.specs.Part.{ownerWithin};
 use crate::Part;
@@ -267,14 +268,36 @@ pub fn slot_of(name: &[u8]) -> [u8; 256]
 
 // Whether two slots hold the same name.
 pub fn same(a: &[u8], b: &[u8]) -> bool
-    requires { ⌜ (length (now a) ≡ slotSize) × (length (now b) ≡ slotSize) ⌝ }
-    requires { ⌜ (inStandardForm (nameIn (now a)) ≡ true) × (inStandardForm (nameIn (now b)) ≡ true) ⌝ }
+    requires { ⌜ (length (now a) ≡ slotSize) × (length (now b) ≡ slotSize) × Holds (now a) × Holds (now b) ⌝ }
     ensures { λ r. ⌜ r ≡ sameName (nameIn (now (a .entry))) (nameIn (now (b .entry))) ⌝ }
 {
     if alike(a, b) {
         return true;
     }
-    names::inside::equal(name_in(a), name_in(b))
+    same_spelt(a, b)
+}
+
+// The same by the labels of the names. After a name a slot is zero, so that 32 octets, or all, are compared where fewer would do, which is faster.
+fn same_spelt(a: &[u8], b: &[u8]) -> bool
+    requires { ⌜ (length (now a) ≡ slotSize) × (length (now b) ≡ slotSize) × Holds (now a) × Holds (now b) ⌝ }
+    ensures { λ r. ⌜ r ≡ sameName (nameIn (now (a .entry))) (nameIn (now (b .entry))) ⌝ }
+{
+    let n = a[0];
+    if n != b[0] {
+        return false;
+    }
+    let k = pieces(n);
+    names::inside::same_labels(&a[..k], &b[..k], 1, 1 + octets::wide(n))
+}
+
+// The octets of a slot that are compared where its name has so many.
+fn pieces(n: u8) -> usize
+    ensures { λ r. ⌜ (1 + n ≤ r) × (r ≤ slotSize) ⌝ }
+{
+    if n < 32 {
+        return 32;
+    }
+    256
 }
 
 // Whether the first 32 octets of two slots are the same and hold their names whole: most names that are the same are told by this alone.

@@ -7,3 +7,4 @@ pub mod ChoiceLaws
 pub mod StartLaws
 pub mod ReplyLaws
 pub mod Computing
+pub mod RespeltLaws

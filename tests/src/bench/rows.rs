@@ -66,6 +66,7 @@ pub fn all() -> Vec<Row> {
     rows.chains();
     rows.checks();
     rows.calls();
+    rows.respelt_calls();
     rows.growing_calls();
     rows.data();
     for records in GROWING {
@@ -268,6 +269,21 @@ impl Rows {
         self.work("reverse, five rewrites, full realistic table", CALL, 1, reverse(table, five_rewrites(), 5));
         let carriers = collapse(&plan.table, &plan.carriers);
         self.work("collapse of a carrier, full realistic table", CALL, plan.carriers.len(), carriers);
+    }
+
+    /// Calls in the same table with every second name respelt, so that most names that are compared differ in case.
+    fn respelt_calls(&mut self) {
+        let plan = keep(realistic().respelt());
+        let table = "respelt realistic table";
+        self.work(format!("check, {table}"), CALL, 1, check(&plan.table));
+        let hosts = lookup(&plan.table, &plan.hosts[..40], CHAINS, 0);
+        self.work(format!("lookup of a host, {table}"), CALL, 40, hosts);
+        let sites = lookup(&plan.table, &plan.sites[..40], CHAINS, 0);
+        self.work(format!("lookup of a site, {table}"), CALL, 40, sites);
+        let walks = reverse(&plan.table, &plan.addresses, 3);
+        self.work(format!("reverse, three rewrites, {table}"), CALL, plan.addresses.len(), walks);
+        let carriers = collapse(&plan.table, &plan.carriers);
+        self.work(format!("collapse of a carrier, {table}"), CALL, plan.carriers.len(), carriers);
     }
 
     /// The same calls among more and more records.

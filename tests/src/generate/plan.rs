@@ -50,19 +50,19 @@ pub fn dname_record(owner: &[u8], target: &[u8]) -> [u8; RECORD] {
 
 // Letters.
 
-/// The octets of the name in a slot of a record.
-pub fn name_in(record: &[u8], slot: usize) -> &[u8] {
-    &record[slot + 1..slot + 1 + record[slot] as usize]
+/// The names in a table, owners and targets, in turn.
+fn names_in(table: &mut [u8]) -> impl Iterator<Item = &mut [u8]> {
+    let slots = table.chunks_exact_mut(RECORD).flat_map(|record| record[OWNER..TTL].chunks_exact_mut(TARGET - OWNER));
+    let names = slots.map(|slot| {
+        let (length, name) = slot.split_at_mut(1);
+        &mut name[..length[0] as usize]
+    });
+    names.filter(|name| !name.is_empty())
 }
 
 /// Puts the letters in the owners and targets of a table in either case (T-03). A table in order stays so.
 pub fn mix_case(random: &mut Random, table: &mut [u8]) {
-    for record in table.chunks_exact_mut(RECORD) {
-        for slot in [OWNER, TARGET] {
-            let end = slot + 1 + record[slot] as usize;
-            names::mix_case(random, &mut record[slot + 1..end]);
-        }
-    }
+    names_in(table).for_each(|name| names::mix_case(random, name));
 }
 
 /// A table with the letters of its names in either case.
@@ -228,6 +228,29 @@ pub fn realistic() -> Realistic {
     }
 }
 
+impl Realistic {
+    /// The same plan in which every second name, in the table and in each list, has its letters in either case. So most
+    /// targets are spelt in another way than the owners that they lead to.
+    pub fn respelt(&self) -> Realistic {
+        let mut random = Random::new(5);
+        let mut table = self.table.clone();
+        names_in(&mut table).skip(1).step_by(2).for_each(|name| names::mix_case(&mut random, name));
+        let mut list = |names: &[Vec<u8>]| {
+            let mut names = names.to_vec();
+            names.iter_mut().skip(1).step_by(2).for_each(|name| names::mix_case(&mut random, name));
+            names
+        };
+        Realistic {
+            table,
+            hosts: list(&self.hosts),
+            sites: list(&self.sites),
+            carriers: list(&self.carriers),
+            upstreams: list(&self.upstreams),
+            addresses: self.addresses.clone(),
+        }
+    }
+}
+
 /// A name of 255 octets in labels of at most `longest` octets, and the places of the octets inside its labels.
 pub fn full_name(longest: usize, filling: u8) -> (Vec<u8>, Vec<usize>) {
     let (mut octets, mut places) = (Vec::new(), Vec::new());
@@ -358,9 +381,11 @@ pub fn spoil(random: &mut Random, made: &mut Name, table: &mut Vec<u8>) {
                 damage(random, made, record);
             }
         }
-        4 => table.extend(
-            ["twice", random.pick(&["twice", "TWIce"])].map(|owner| dname_record(&name(owner), &name("t"))).concat(),
-        ),
+        4 => {
+            for owner in ["twice", random.pick(&["twice", "TWIce"])] {
+                table.extend(dname_record(&name(owner), &name("t")));
+            }
+        }
         _ => {}
     }
 }

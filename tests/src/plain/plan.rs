@@ -88,6 +88,21 @@ pub fn check(table: &[u8]) -> u32 {
     0
 }
 
+/// Two tables that keep the layout are the same but for the spelling of their names (T-03).
+pub fn same(one: &[u8], other: &[u8]) -> bool {
+    let same_names = |one: &[u8], other: &[u8]| match (name_in(one), name_in(other)) {
+        (Some(one), Some(other)) => names::same(&one, &other),
+        (one, other) => one.is_none() && other.is_none(),
+    };
+    let same_records = |(one, other): (&[u8], &[u8])| {
+        one[..20] == other[..20]
+            && same_names(owner_slot(one), owner_slot(other))
+            && same_names(target_slot(one), target_slot(other))
+            && ttl(one) == ttl(other)
+    };
+    one.len() == other.len() && one.chunks(RECORD).zip(other.chunks(RECORD)).all(same_records)
+}
+
 /// The table is in order, or the number that it earns.
 pub fn in_order(table: &[u8]) -> Result<(), u32> {
     match check(table) {

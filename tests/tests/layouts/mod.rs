@@ -312,6 +312,28 @@ fn what_is_read_and_written_back_is_the_standard_form() {
     }
 }
 
+/// Letters of either case count alike where names are compared (T-03). Reading and writing keep them as they are.
+#[test]
+fn letters_are_read_and_written_as_they_are() {
+    let mut sides = Sides::new(LAYOUT);
+    let mut random = Random::new(17);
+    let (mut name, mut data) = (Name::new(), Vec::new());
+    for _ in 0..20_000 {
+        make::good_data(&mut random, LAYOUT, &mut name, &mut data);
+        let before = LAYOUT.before_name(data[LAYOUT.prefix()]);
+        names::mix_case(&mut random, &mut data[before..]);
+        assert_eq!(sides.read_plainly(&data), 0);
+        let value = sides.value_of(&data);
+        let standard = LAYOUT.standard(&data);
+        assert_eq!(sides.data_of(&value), standard, "{data:02x?}");
+        // Where no bit labels are merged.
+        if standard.len() == data.len() {
+            assert_eq!(standard[before..], data[before..], "{data:02x?}");
+            assert!(value[18..].starts_with(&data[before..]), "{data:02x?}");
+        }
+    }
+}
+
 /// A value is accepted exactly when reading what was written gives it back.
 #[test]
 fn what_is_written_and_read_back_is_itself() {

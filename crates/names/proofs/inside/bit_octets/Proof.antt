@@ -1,7 +1,7 @@
 -- `names::inside::bit_octets` meets its contract.
 use Prim.Native.Nat.{_+_}
-use mathlib.Core.Path.{_≡_, ap, sym}
-use lib.ListN.{getD, List·getD-eq-default}
+use lib.ListN.{take, List·getD-eq-default}
+use lib.Seq.{getD-take, length-take-le}
 use native.Mathlib.Omega.{arith}
 use Rattle.bits.specs.Bits.{octetsFor}
 use Rattle.labels.specs.Labels.{countFor}
@@ -13,7 +13,8 @@ returns : tie.Need-returns
 unfolding countFor
 returns c =
     let a = c .before .before .args in
-    (rw (List·getD-eq-default (a .name .now) 0 {n = a .i} (omega arith)), omega arith)
+    let l = length-take-le (a .end) (a .name .now) (c .before .before .pre) in
+    (rw (List·getD-eq-default (take (a .end) (a .name .now)) 0 {n = a .i} (omega arith)), omega arith)
 
 shared-slice-read-count : tie.Need-shared-slice-read-count
 shared-slice-read-count c = search needs
@@ -28,7 +29,9 @@ add-result-2 : tie.Need-add-result-2
 add-result-2 c = search needs
 
 returns-2 : tie.Need-returns-2
-returns-2 c = (rw (c .count .ensures .0), omega arith)
+returns-2 c =
+    let a = c .before .before .before .before .args in
+    (rw (c .count .ensures .0, getD-take (a .end) (a .name .now) (a .i) 0 (omega arith)), omega arith)
 
 pub bit-octets-spec : {M : Type 1} → statement M
 bit-octets-spec =

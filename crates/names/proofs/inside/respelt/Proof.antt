@@ -28,8 +28,9 @@ same-labels-requires c κs = search needs
 
 returns-2 : tie.Need-returns-2
 returns-2 c =
-    let a = c .before .before .before .before .before .before .before .before .args in
-    c .same-labels .ensures ∙ walk-whole (a .a .now) (a .b .now)
+    let s = c .before .before .before .before .before .before .before .before in
+    let a = s .args in
+    c .same-labels .ensures ∙ walk-whole (a .a .now) (a .b .now) (s .pre .0)
 
 pub respelt-spec : {M : Type 1} → statement M
 respelt-spec =

@@ -3,7 +3,8 @@ use Prim.Native.Nat.{ℕ, _+_, _-_, _≤_}
 use mathlib.Core.Path.{_≡_, ap, ap₂, _∙_, sym}
 use mathlib.Core.List.{List}
 use lib.ListN.{length, take, drop, length-drop}
-use lib.Seq.{take-all}
+use lib.Seq.{take-all, length-take-le}
+use Rattle.octets.proofs.OctetLaws.{take-drop-take}
 use native.Mathlib.Omega.{arith}
 use Rattle.octets.specs.Octets.{same}
 use borrow.Author.Needs.{needs}
@@ -11,8 +12,12 @@ use Rattle.names.proofs.inside.same_part.Statement.{statement}
 use Rattle.names.proofs.inside.same_part.Tie as tie
 
 -- a part to the end is all that is left, where less is left than is asked for
-rest-is : (xs : List ℕ) (i n : ℕ) → length xs ≤ i + n → take (length xs - i) (drop i xs) ≡ take n (drop i xs)
-rest-is xs i n h = let l = length-drop i xs in take-all (length xs - i) (drop i xs) (omega arith) ∙ sym (take-all n (drop i xs) (omega arith))
+rest-is : (xs : List ℕ) (i n end : ℕ) → i ≤ end → end ≤ length xs → end ≤ i + n → take (end - i) (drop i xs) ≡ take n (drop i (take end xs))
+rest-is xs i n end h k m =
+    let ys = drop i (take end xs) in
+    let l = length-drop i (take end xs) in
+    let z = length-take-le end xs k in
+    sym (take-drop-take (end - i) i end xs (omega arith)) ∙ take-all (end - i) ys (omega arith) ∙ sym (take-all n ys (omega arith))
 
 add-e : tie.Need-add-e
 add-e c = search needs
@@ -42,7 +47,9 @@ returns : tie.Need-returns
 returns c =
     let a = c .before .before .before .before .before .before .args in
     let e : a .i + a .size - a .i ≡ a .size = omega arith in
-    c .equal .ensures ∙ ap (λ (n : ℕ). same (take n (drop (a .i) (a .a .now))) (take n (drop (a .i) (a .b .now)))) e
+    let part : (xs : List ℕ) → take (a .i + a .size - a .i) (drop (a .i) xs) ≡ take (a .size) (drop (a .i) (take (a .end) xs)) =
+    λ xs. ap (λ (n : ℕ). take n (drop (a .i) xs)) e ∙ sym (take-drop-take (a .size) (a .i) (a .end) xs (omega arith)) in
+    c .equal .ensures ∙ ap₂ same (part (a .a .now)) (part (a .b .now))
 
 sub-equal-3 : tie.Need-sub-equal-3
 sub-equal-3 c = search needs
@@ -68,7 +75,7 @@ equal-requires-2 c κs = search needs
 returns-2 : tie.Need-returns-2
 returns-2 c =
     let a = c .before .before .before .before .before .before .args in
-    c .equal2 .ensures ∙ ap₂ same (rest-is (a .a .now) (a .i) (a .size) (omega arith)) (rest-is (a .b .now) (a .i) (a .size) (omega arith))
+    c .equal2 .ensures ∙ ap₂ same (rest-is (a .a .now) (a .i) (a .size) (a .end) (omega arith) (omega arith) (omega arith)) (rest-is (a .b .now) (a .i) (a .size) (a .end) (omega arith) (omega arith) (omega arith))
 
 pub same-part-spec : {M : Type 1} → statement M
 same-part-spec =

@@ -89,7 +89,7 @@ same-requires c κs =
     let w = begun (looping (c .before)) .pre in
     let l = looping (c .before) .loop in
     let e = c .slot-at .ensures .0 ∙ ap (slotAt (begun (looping (c .before)) .args .table .now)) (c .before .wide2 .ensures) in
-    ((c .slot-at .ensures .1, w .1), (rw e (w .0 .named (l .next - 1) (omega arith) .holds .name), w .2 .name))
+    (c .slot-at .ensures .1, w .1, rw e (w .0 .named (l .next - 1) (omega arith) .holds), w .2)
 
 returns : At tie.Need-returns
 returns c =
