@@ -8,6 +8,9 @@
  *
  * figures: two places, the answer's two figures. A figures slice of another length is answered 5,
  * where the call earns no number that comes before 5.
+ *
+ * Names are the same where they differ in nothing but how a run of bits is cut into bit labels, and in the case of the letters
+ * A to Z inside ordinary labels. What is written has its letters as they were given, or as the table has them.
  */
 #ifndef A6PLAN_H
 #define A6PLAN_H
@@ -16,9 +19,9 @@
 #include <stdint.h>
 
 /* The version of this interface (CHANGELOG.md), as text and by its parts. */
-#define A6PLAN_VERSION "0.3.0"
+#define A6PLAN_VERSION "0.4.0"
 #define A6PLAN_VERSION_MAJOR 0
-#define A6PLAN_VERSION_MINOR 3
+#define A6PLAN_VERSION_MINOR 4
 #define A6PLAN_VERSION_PATCH 0
 
 /* How many elements an array has, which is the length of its slice; sizeof counts octets. Of an array, not of a pointer. */
@@ -38,7 +41,8 @@ extern "C" {
 #endif
 
 /*
- * The standard form of a name in wire form: one bit label for each run of bits, then zeros to the end of the output.
+ * The standard form of a name in wire form: one bit label for each run of bits, letters as they are, then zeros to the end of
+ * the output.
  * 4: the name is malformed. 5: the output is not of 255 octets. figures: the length of the standard form, and 0.
  */
 uint32_t a6plan_standard(const uint8_t *name, size_t name_length,
@@ -80,7 +84,7 @@ uint32_t a6plan_write_1998(const uint8_t *value, size_t value_length,
                            uint8_t *out, size_t out_length,
                            uint32_t *figures, size_t figures_length);
 
-/* Whether a table is in order: 0; 1: its length; 2: some record; 3: two DNAMEs with one owner. */
+/* Whether a table is in order: 0; 1: its length; 2: some record; 3: two DNAMEs with the same owner. */
 uint32_t a6plan_check(const uint8_t *table, size_t table_length);
 
 /*
@@ -116,7 +120,8 @@ uint32_t a6plan_reverse(const uint8_t *table, size_t table_length,
 
 /*
  * The table in which each unfinished A6 record of a name is replaced by what it makes with the records of its target, each
- * time with the smaller TTL of the two, then zeros. figures: how many records, and 0. Every name keeps its addresses.
+ * time with the smaller TTL of the two, then zeros. figures: how many records, and 0. Every name keeps its addresses. Each
+ * owner is spelt as in the table, whatever the spelling of the given name.
  * 1, 2, 3: the table. 4: the name is malformed. 5: the output is no multiple of 536 octets.
  * 9: an ignored record could come back. 7: the new table has more records than the output has room for, or than 1,024.
  */

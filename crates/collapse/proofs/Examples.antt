@@ -1,4 +1,4 @@
--- Collapses by computation: the marked ones of 01 (Examples to check), the edges of each number, and TTLs (T-01).
+-- Collapses by computation: the marked ones of 01 (Examples to check), the edges of each number, TTLs (T-01), and letters in either case (T-03).
 use Prim.Native.Nat.{ℕ, _+_, _*_}
 use mathlib.Core.Path.{_≡_, refl}
 use mathlib.Core.List.{List, [], _∷_, _++_, map}
@@ -7,7 +7,7 @@ use Rattle.octets.specs.Octets.{blank, flat}
 use Rattle.octets.specs.Numbers.{octetsOf}
 use Rattle.octets.specs.Answers.{answering, refusal}
 use Rattle.octets.specs.declared.Answer.{Answer}
-use Rattle.names.proofs.Samples.{ha, pa, qa, xa}
+use Rattle.names.proofs.Samples.{ha, pa, qa, xa, HA, PA}
 use Rattle.plan.specs.Layout.{recordSize, slotSize, ttlSize, ttlPlace, a6, slotOf, recordOf}
 use Rattle.collapse.specs.Collapse.{collapseOf}
 use Rattle.collapse.proofs.Computing.{collapses-compute}
@@ -66,6 +66,22 @@ uneven : List ℕ
 unfolding flat toward finished sixteen host subnet
 uneven = flat (toward sixteen 60 (host 7) pa ∷ finished pa (subnet 0x55 0) ∷ [])
 
+-- names in letters of either case: h.a → A6 64 ::7 P.A, and p.a → A6 48 0:0:0:5:: q.A; and h.a → A6 48 :: P.A before a longer record of p.a
+qA : List ℕ
+qA = 1 ∷ 113 ∷ 1 ∷ 65 ∷ 0 ∷ []
+
+inner : ℕ → ℕ → List ℕ
+unfolding blank
+inner n m = blank 7 ++ n ∷ blank 7 ++ m ∷ []
+
+spelt : List ℕ
+unfolding flat toward host inner qA
+spelt = flat (toward ha 64 (host 7) PA ∷ toward pa 48 (inner 5 0) qA ∷ [])
+
+reviving : List ℕ
+unfolding flat toward finished host site
+reviving = flat (toward ha 48 (host 0) PA ∷ toward pa 64 (host 1) qa ∷ finished pa (site 0) ∷ finished qa (site 1) ∷ [])
+
 -- the first table once more, with TTLs
 lived : ℕ → ℕ → List ℕ
 unfolding flat lasting toward finished host subnet
@@ -100,7 +116,7 @@ unfolding lived folded
 lives m n k = record { table = lived m n; name = ha; size = 2 * recordSize; answer = answering 2 0; output = folded k n }
 
 pub cases : List Case
-unfolding plain ignored loop uneven sixteen eights host subnet site toward finished flat blank lived refuses lives
+unfolding plain ignored loop uneven sixteen eights spelt reviving qA inner host subnet site toward finished flat blank lived refuses lives
 cases =
     -- the marked two
     record { table = plain; name = ha; size = 3 * recordSize; answer = answering 2 0; output = flat (finished ha (subnet 5 7) ∷ finished pa (subnet 5 0) ∷ []) ++ blank recordSize }
@@ -122,6 +138,9 @@ cases =
     ∷ refuses loop xa (2 * recordSize) 7
     -- a name in another spelling, and bits that part inside an octet
     ∷ record { table = uneven; name = eights; size = 2 * recordSize; answer = answering 2 0; output = flat (finished sixteen (subnet 0x50 7) ∷ finished pa (subnet 0x55 0) ∷ []) }
+    -- a name in letters of another case: the owner stays as r has it, and the target as q has it; 9 for a referrer in other letters
+    ∷ record { table = spelt; name = HA; size = 2 * recordSize; answer = answering 2 0; output = flat (toward ha 48 (inner 5 7) qA ∷ toward pa 48 (inner 5 0) qA ∷ []) }
+    ∷ refuses reviving pa (4 * recordSize) 9
     -- the smaller TTL of the two, whichever has it, and the edges
     ∷ lives 300 86400 300
     ∷ lives 86400 300 300

@@ -1,5 +1,4 @@
 -- The words of T-03 about walks: two of them end alike.
-use Prim.Native.Nat.{ℕ}
 use mathlib.Core.Path.{_≡_}
 use Rattle.names.specs.Matching.{Pairwise, MatchUnit}
 use Rattle.reverse.specs.Walk.{End, refused, ended}

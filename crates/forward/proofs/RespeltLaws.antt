@@ -1,13 +1,13 @@
 -- Lookups do not see spelling: tables that differ in it alone, asked for one name in any spelling, give the same number, figures, addresses and TTLs.
 use Prim.Native.Nat.{ℕ, _/_}
-use mathlib.Core.Path.{_≡_, ap, ap₂, _∙_, sym}
-use mathlib.Core.Bool.{Bool, _&&_}
+use mathlib.Core.Path.{_≡_}
+use mathlib.Core.Bool.{_&&_}
 use mathlib.Core.List.{List}
 use mathlib.Core.Logic.{_↔_}
 use lib.Dec.{eqb}
 use Rattle.octets.specs.Octets.{same}
 use Rattle.labels.specs.Scan.{wellFormed}
-use Rattle.names.specs.Standard.{keyOf, Same, sameName}
+use Rattle.names.specs.Standard.{Same, sameName}
 use Rattle.chains.specs.Chain.{Spells}
 use Rattle.chains.specs.Listing.{workOf}
 use Rattle.chains.specs.Addresses.{addressesOf}
@@ -15,7 +15,7 @@ use Rattle.chains.specs.Lifetimes.{lifetimeOf}
 use Rattle.chains.specs.Renaming.{Alike, Renamed}
 use Rattle.chains.proofs.RenamingLaws.{work-renamed, addresses-renamed, spells-renamed}
 use Rattle.chains.proofs.LifetimeLaws.{lifetime-renamed}
-use Rattle.plan.specs.Layout.{a6, countOf, recordAt, ownerAt, targetAt, isType}
+use Rattle.plan.specs.Layout.{a6, targetAt, isType}
 use Rattle.plan.specs.Respelt.{Respelt}
 use Rattle.plan.specs.Check.{InOrder, entryNumber}
 use Rattle.plan.specs.Graph.{ownsA6, graphOf}

@@ -7,14 +7,14 @@ use lib.Dec.{eqb}
 use lib.ListN.{length, getD, take, drop, drop-of-length-le, List·getD-map}
 use lib.Seq.{drop-cons, drop-drop, getD-drop, getD-take, take-length, length-take-le}
 use native.Mathlib.Omega.{arith}
-use borrow.Author.Tests.{eq-eqb, ne-eqb, eqb-true, eqb-false}
+use borrow.Author.Tests.{eq-eqb, ne-eqb, eqb-true}
 use Rattle.octets.specs.Octets.{sameBy, same}
 use Rattle.bits.specs.Bits.{octetsFor}
 use Rattle.labels.specs.Labels.{countFor}
 use Rattle.octets.proofs.SameLaws.{same-eq, same-refl, same-unlike}
 use Rattle.octets.proofs.BoolLaws.{and-true, and-false, clash, refuted}
 use Rattle.names.specs.Standard.{lower}
-use Rattle.names.specs.Keys.{octetKey, keyFrom, keyOctets, walked, Past}
+use Rattle.names.specs.Keys.{octetKey, keyFrom, keyOctets, walked}
 use Rattle.names.proofs.KeyLaws.{keys-length, keys-lowered, key-begins, begins-ordinary, begins-bits, bitSize}
 
 -- lists of other lengths have other keys

@@ -17,3 +17,10 @@ xa = 1 ∷ 120 ∷ 1 ∷ 97 ∷ 0 ∷ []
 
 abbrev pub za : List ℕ
 za = 1 ∷ 122 ∷ 1 ∷ 97 ∷ 0 ∷ []
+
+-- h.a and p.a in capitals
+abbrev pub HA : List ℕ
+HA = 1 ∷ 72 ∷ 1 ∷ 65 ∷ 0 ∷ []
+
+abbrev pub PA : List ℕ
+PA = 1 ∷ 80 ∷ 1 ∷ 65 ∷ 0 ∷ []

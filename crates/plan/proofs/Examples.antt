@@ -5,10 +5,11 @@ use mathlib.Core.Bool.{true, false}
 use mathlib.Core.List.{List, [], _∷_, _++_, map}
 use lib.ListN.{take, drop, set, replicate}
 use Rattle.octets.specs.Octets.{blank, flat}
-use Rattle.names.proofs.Samples.{ha, pa}
+use Rattle.names.proofs.Samples.{ha, pa, HA, PA}
 use Rattle.plan.specs.Layout.{recordSize, slotSize, addressSize, ttlPlace, a6, dname, ttlOf, slotOf, recordOf}
 use Rattle.plan.specs.Check.{faultOf, checkOf}
 use Rattle.plan.specs.Marks.{markOf, alikeOf}
+use Rattle.plan.specs.Graph.{ownsA6}
 use Rattle.plan.specs.Part.{ownerPart}
 use Rattle.plan.proofs.Computing.{tables-compute}
 
@@ -125,13 +126,19 @@ good : List ℕ
 unfolding flat h64 p0 alias
 good = flat (h64 ∷ p0 ∷ p0 ∷ alias pa ha ∷ alias ha ha ∷ [])
 
--- no records, some, a length that is no multiple, a fault before and after two DNAMEs with one owner, those two alone
+-- no records, some, a length that is no multiple, a fault before and after two DNAMEs with one owner, those two alone, in two spellings too (T-03)
 checks : map checkOf (
     [] ∷ good ∷ drop 1 good ∷ (good ++ (0 ∷ [])) ∷ take (recordSize - 1) good ∷ flat (alias ha pa ∷ h64 ∷ alias ha ha ∷ set p0 3 1 ∷ [])
-    ∷ flat (set p0 3 1 ∷ alias ha pa ∷ alias ha ha ∷ []) ∷ flat (alias ha pa ∷ h64 ∷ alias ha ha ∷ []) ∷ flat (alias pa pa ∷ alias ha pa ∷ alias pa pa ∷ []) ∷ [])
-    ≡ 0 ∷ 0 ∷ 1 ∷ 1 ∷ 1 ∷ 2 ∷ 2 ∷ 3 ∷ 3 ∷ []
+    ∷ flat (set p0 3 1 ∷ alias ha pa ∷ alias ha ha ∷ []) ∷ flat (alias ha pa ∷ h64 ∷ alias ha ha ∷ []) ∷ flat (alias pa pa ∷ alias ha pa ∷ alias pa pa ∷ [])
+    ∷ flat (alias HA pa ∷ h64 ∷ alias ha ha ∷ []) ∷ flat (alias HA pa ∷ h64 ∷ alias pa ha ∷ []) ∷ [])
+    ≡ 0 ∷ 0 ∷ 1 ∷ 1 ∷ 1 ∷ 2 ∷ 2 ∷ 3 ∷ 3 ∷ 3 ∷ 0 ∷ []
 unfolding tables-compute good h64 p0 alias
 checks = refl
+
+-- a name owns its A6 records in any spelling, and no others (T-03)
+owns : ownsA6 good 0 ha ∷ ownsA6 good 0 HA ∷ ownsA6 good 1 PA ∷ ownsA6 good 1 HA ∷ ownsA6 good 4 HA ∷ [] ≡ true ∷ true ∷ true ∷ false ∷ false ∷ []
+unfolding tables-compute good h64 p0 alias
+owns = refl
 
 -- the owner part: of each kind of record, past the last record, and of a table that earns 3
 parts : ownerPart good 0 ∷ ownerPart good 3 ∷ ownerPart good 5 ∷ ownerPart (flat (alias ha pa ∷ alias ha ha ∷ [])) 0 ∷ []
@@ -143,13 +150,9 @@ parts = refl
 long : ℕ → List ℕ
 long x = 40 ∷ replicate 39 97 ++ (x ∷ 0 ∷ [])
 
--- h.a in capitals
-capitals : List ℕ
-capitals = 1 ∷ 72 ∷ 1 ∷ 65 ∷ 0 ∷ []
-
 -- marks of slots, the same for h.a in either case; and slots that are alike: the same short name is, a long one is not even with itself
-marks : map markOf (slotOf root ∷ slotOf ha ∷ slotOf capitals ∷ slotOf pa ∷ slotOf (long 1) ∷ slotOf (long 2) ∷ []) ≡ 52373 ∷ 27802 ∷ 27802 ∷ 50246 ∷ 823 ∷ 603 ∷ []
-unfolding markOf slotOf root capitals long blank
+marks : map markOf (slotOf root ∷ slotOf ha ∷ slotOf HA ∷ slotOf pa ∷ slotOf (long 1) ∷ slotOf (long 2) ∷ []) ≡ 52373 ∷ 27802 ∷ 27802 ∷ 50246 ∷ 823 ∷ 603 ∷ []
+unfolding markOf slotOf root long blank
 marks = refl
 
 alikes : alikeOf (slotOf ha) (slotOf ha) ∷ alikeOf (slotOf ha) (slotOf pa) ∷ alikeOf (slotOf (long 1)) (slotOf (long 2)) ∷ alikeOf (slotOf (long 1)) (slotOf (long 1)) ∷ []

@@ -1,21 +1,20 @@
 -- Laws of marks: slots of the same name have the same mark.
-use Prim.Native.Nat.{ℕ, zero, suc, _+_, _-_, _*_, _/_, _%_, _^_, _≤_, _<_}
+use Prim.Native.Nat.{ℕ, zero, suc, _+_, _*_, _/_, _%_, _^_, _≤_, _<_}
 use mathlib.Core.Path.{_≡_, refl, ap, _∙_, sym}
 use mathlib.Core.Bool.{Bool, true, false}
-use mathlib.Core.List.{List, [], _∷_, map, map-append}
+use mathlib.Core.List.{List, [], _∷_, map}
 use mathlib.Core.Logic.{⊎-elim}
 use lib.Dec.{ltb, eqb}
-use lib.ListN.{length, getD, take, drop, set, drop-of-length-le, length-map, List·getD-map}
+use lib.ListN.{length, getD, take, drop, set, drop-of-length-le, List·getD-map}
 use lib.Seq.{drop-cons, getD-set-same, getD-set-other, getD-take}
 use native.Mathlib.Omega.{arith}
 use native.Mathlib.Nat.{zero-add, mul-le-mul}
 use native.Mathlib.Numerals.{add-one}
 use borrow.Author.Tests.{lt-ltb, le-ltb, ltb-true, ltb-false, eq-eqb, ne-eqb, eqb-true, eqb-false}
-use Rattle.octets.specs.Octets.{blank}
 use Rattle.names.specs.Standard.{lower, sameName}
 use Rattle.names.proofs.LowerLaws.{lower-ways}
 use Rattle.names.proofs.KeyLaws.{same-lowered}
-use Rattle.plan.specs.Layout.{nameRoom, nameIn, slotOf, ownerSlot, isDname, recordAt, ownerAt}
+use Rattle.plan.specs.Layout.{nameIn, slotOf, ownerSlot, isDname, recordAt, ownerAt}
 use Rattle.plan.specs.First.{some}
 use Rattle.plan.specs.Check.{twin, repeats}
 use Rattle.plan.specs.Good.{Holds}

@@ -100,6 +100,13 @@ cases =
     -- most units and not most labels: the longer bit label wins
     ∷ case 1 (dname (65 ∷ 1 ∷ 128 ∷ 1 ∷ 97 ∷ 0 ∷ []) (1 ∷ 98 ∷ 0 ∷ []) ∷ dname (65 ∷ 2 ∷ 128 ∷ 1 ∷ 97 ∷ 0 ∷ []) (1 ∷ 99 ∷ 0 ∷ []) ∷ dname (1 ∷ 97 ∷ 0 ∷ []) (1 ∷ 100 ∷ 0 ∷ []) ∷ [])
     (65 ∷ 3 ∷ 160 ∷ 1 ∷ 97 ∷ 0 ∷ []) 0 (65 ∷ 1 ∷ 128 ∷ 1 ∷ 99 ∷ 0 ∷ []) 1
+    -- an owner in letters of another case applies (T-03): what is below stays as it is spelt, and the target comes as it is; at an edge and inside a bit label
+    ∷ case 1 (dname (1 ∷ 65 ∷ 0 ∷ []) (1 ∷ 66 ∷ 0 ∷ []) ∷ []) (1 ∷ 88 ∷ 1 ∷ 120 ∷ 1 ∷ 97 ∷ 0 ∷ []) 0 (1 ∷ 88 ∷ 1 ∷ 120 ∷ 1 ∷ 66 ∷ 0 ∷ []) 1
+    ∷ case 1 (dname (65 ∷ 1 ∷ 128 ∷ 1 ∷ 65 ∷ 0 ∷ []) (1 ∷ 98 ∷ 0 ∷ []) ∷ []) (65 ∷ 3 ∷ 160 ∷ 1 ∷ 97 ∷ 0 ∷ []) 0 (65 ∷ 2 ∷ 64 ∷ 1 ∷ 98 ∷ 0 ∷ []) 1
+    -- and with most units; but never to its own owner, and bits have no case
+    ∷ case 1 (dname (1 ∷ 97 ∷ 0 ∷ []) (1 ∷ 98 ∷ 0 ∷ []) ∷ dname (1 ∷ 88 ∷ 1 ∷ 65 ∷ 0 ∷ []) (1 ∷ 99 ∷ 0 ∷ []) ∷ []) (1 ∷ 121 ∷ 1 ∷ 120 ∷ 1 ∷ 97 ∷ 0 ∷ []) 0 (1 ∷ 121 ∷ 1 ∷ 99 ∷ 0 ∷ []) 1
+    ∷ case 9 (dname (1 ∷ 120 ∷ 1 ∷ 65 ∷ 0 ∷ []) (1 ∷ 110 ∷ 0 ∷ []) ∷ []) (1 ∷ 88 ∷ 1 ∷ 97 ∷ 0 ∷ []) 0 (1 ∷ 88 ∷ 1 ∷ 97 ∷ 0 ∷ []) 0
+    ∷ case 9 (dname (65 ∷ 8 ∷ 65 ∷ 1 ∷ 97 ∷ 0 ∷ []) (1 ∷ 98 ∷ 0 ∷ []) ∷ []) (65 ∷ 16 ∷ 97 ∷ 0 ∷ 1 ∷ 97 ∷ 0 ∷ []) 0 (65 ∷ 16 ∷ 97 ∷ 0 ∷ 1 ∷ 97 ∷ 0 ∷ []) 0
     -- 6 before 8
     ∷ case 0 (dname (1 ∷ 97 ∷ 0 ∷ []) (65 ∷ 0 ∷ (noughts 32 ++ (1 ∷ 98 ∷ 0 ∷ []))) ∷ []) (65 ∷ 1 ∷ 0 ∷ 1 ∷ 97 ∷ 0 ∷ []) 6 [] 0
     -- a run of 257 bits, and one of 256

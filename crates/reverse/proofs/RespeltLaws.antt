@@ -8,8 +8,7 @@ use lib.Dec.{ltb, eqb}
 use lib.ListN.{length, take, drop, length-append, length-map}
 use native.Mathlib.Omega.{arith}
 use Rattle.octets.specs.Octets.{Small}
-use Rattle.octets.specs.declared.Answer.{Answer}
-use Rattle.octets.specs.Answers.{answerBy, earns, orElse}
+use Rattle.octets.specs.Answers.{answerBy}
 use Rattle.names.specs.Standard.{Unit, label, bit, unitsOf, bitLabel, encodeFrom, encode, lower, keyUnit, keys}
 use Rattle.names.proofs.KeyLaws.{key-twice, same-units}
 use Rattle.names.proofs.StandardLaws.{in-standard}
@@ -21,8 +20,8 @@ use Rattle.plan.proofs.LayoutLaws.{record-small}
 use Rattle.plan.proofs.RecordLaws.{owner-small, target-small}
 use Rattle.plan.proofs.SlotLaws.{name-small}
 use Rattle.rewriting.specs.Rewrite.{sameUnits, belowOf, rewriteOf, longRun, tooLarge}
-use Rattle.reverse.specs.Walk.{startOf, Rule, Due, none, due, better, dueFrom, dueOf, End, refused, ended, onward, walkOf}
-use Rattle.reverse.specs.Answers.{ruleOf, rulesOf, earlyNumber, endOf, endNumber, endName, endRewrites, answerFor, reverseAnswer}
+use Rattle.reverse.specs.Walk.{startOf, Rule, Due, none, due, better, dueFrom, dueOf, End, refused, ended, walkOf}
+use Rattle.reverse.specs.Answers.{ruleOf, rulesOf, earlyNumber, endOf, answerFor, reverseAnswer}
 use Rattle.reverse.proofs.TableLaws.{owner-form, target-form}
 use Rattle.reverse.proofs.WalkLaws.{walk-ended, walk-out, walk-large, walk-on}
 

@@ -1,9 +1,7 @@
 -- `names::inside::bit_octets` meets its contract.
-use Prim.Native.Nat.{_+_}
 use lib.ListN.{take, List·getD-eq-default}
 use lib.Seq.{getD-take, length-take-le}
 use native.Mathlib.Omega.{arith}
-use Rattle.bits.specs.Bits.{octetsFor}
 use Rattle.labels.specs.Labels.{countFor}
 use borrow.Author.Needs.{needs}
 use Rattle.names.proofs.inside.bit_octets.Statement.{statement}
