@@ -1,4 +1,4 @@
--- The type of a record by its index: the code's own, nothing that a reader must believe.
+-- The type of a record by its index (01, The plan table).
 use Prim.Native.Nat.{ℕ}
 use mathlib.Core.List.{List}
 use Rattle.plan.specs.Layout.{typeOf, recordAt}
