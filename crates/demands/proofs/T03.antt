@@ -2,36 +2,36 @@
 -- functions meet (Demand1).
 use Prim.Native.Nat.{ℕ, _<_}
 use mathlib.Core.Path.{_≡_, refl, _∙_, sym}
-use mathlib.Core.Bool.{true, false}
+use mathlib.Core.Bool.{Bool, true, false}
 use mathlib.Core.List.{List}
 use mathlib.Core.Logic.{_↔_}
+use lib.Dec.{ltb}
 use lib.ListN.{length}
 use native.Mathlib.Omega.{arith}
 use Rattle.octets.specs.Octets.{Small}
+use Rattle.octets.specs.Answers.{earns}
 use Rattle.labels.specs.Scan.{wellFormed}
 use Rattle.names.specs.Standard.{Unit, standardOf, lower, keyUnit, Same, sameName, inStandardForm}
-use Rattle.names.specs.Matching.{MatchOctet, MatchName}
+use Rattle.names.specs.Matching.{MatchOctet, Pairwise, MatchUnit, MatchName}
 use Rattle.names.proofs.StandardLaws.{same-name-same, same-same-name}
 use Rattle.names.proofs.RoundLaws.{same-reflexive, same-symmetric, same-transitive, same-standard}
 use Rattle.names.proofs.KeyLaws as keyed
 use Rattle.names.proofs.MatchingLaws.{octets-match, units-match, names-match}
 use Rattle.chains.specs.Chain.{Spells}
-use Rattle.plan.specs.Layout.{dname, countOf, ownerAt}
-use Rattle.plan.specs.Records.{typeAt}
-use Rattle.plan.specs.Check.{InOrder}
+use Rattle.plan.specs.Layout.{addressSize, countOf}
+use Rattle.plan.specs.Check.{firstFault, firstRepeat, Shared, missized, checkOf, InOrder}
 use Rattle.plan.specs.Graph.{graphOf}
 use Rattle.plan.specs.Respelt.{Respelt}
-use Rattle.plan.proofs.OrderLaws.{order-differ}
+use Rattle.plan.proofs.OrderLaws.{repeat-shared}
+use Rattle.rewriting.specs.Rewrite.{Applies}
 use Rattle.forward.specs.Lookup.{lookupNumber, lookupAnswer, lookupOut, lookupTtls}
 use Rattle.forward.proofs.RespeltLaws as forward
-use Rattle.reverse.specs.Walk.{End, refused, ended}
-use Rattle.reverse.specs.Answers.{endOf, reverseAnswer}
+use Rattle.reverse.specs.Answers.{endOf, endName, reverseAnswer}
 use Rattle.reverse.proofs.RespeltLaws as reverse
 use Rattle.collapse.specs.Collapse.{collapseAnswer, collapseOut}
 use Rattle.collapse.specs.Demand3.{Call, inHand}
 use Rattle.collapse.proofs.CollapseLaws.{answer-same, out-same}
 use Rattle.collapse.proofs.Demanded.{demand3}
-use Rattle.demands.specs.T03.{EndAlike}
 
 -- ---- when names are the same
 -- octets of ordinary labels count alike where they are equal or one letter in two cases, and in no other pair
@@ -70,12 +70,23 @@ pub one-length : (m n : List ℕ) → inStandardForm m ≡ true → inStandardFo
 one-length = keyed.same-lengths
 
 -- ---- what follows
--- in a table in order no two DNAMEs have the same owner, in any spelling
-pub owners-apart : (t : List ℕ) → InOrder t → (i j : ℕ) → i < countOf t → j < countOf t → (i ≡ j → ⊥) → typeAt t i ≡ dname → typeAt t j ≡ dname → Same (ownerAt t i) (ownerAt t j) → ⊥
-owners-apart t o i j p q n d e s =
-    let z : true ≡ false = sym (same-same-name (ownerAt t i) (ownerAt t j) s) ∙ order-differ t o i j p q n d e in
-    let y : _≡_ {A = ℕ} 0 1 = cc in
-    omega arith
+-- 3 by the new equality: a table that earns neither 1 nor 2 earns it exactly when two DNAMEs have the same owner, in any spelling
+pub shared-owner : (t : List ℕ) → (checkOf t ≡ 1 → ⊥) → (checkOf t ≡ 2 → ⊥) → (checkOf t ≡ 3) ↔ Shared t
+unfolding checkOf
+shared-owner t g h =
+    let e = third-test (missized t) (ltb (firstFault t) (countOf t)) (ltb (firstRepeat t) (countOf t)) g h in
+    let r = repeat-shared t in
+    (λ k. r .0 (e .0 k), λ k. e .1 (r .1 k))
+  where
+    third-test : (a b c : Bool) → (earns a 1 (earns b 2 (earns c 3 0)) ≡ 1 → ⊥) → (earns a 1 (earns b 2 (earns c 3 0)) ≡ 2 → ⊥) → (earns a 1 (earns b 2 (earns c 3 0)) ≡ 3) ↔ (c ≡ true)
+    third-test true b c g h = absurd (g refl)
+    third-test false true c g h = absurd (h refl)
+    third-test false false true g h = (λ k. refl, λ k. refl)
+    third-test false false false g h = (λ k. absurd (omega (arith, k)), λ k. (let z : _≡_ {A = ℕ} 0 1 = cc in absurd (omega arith)))
+
+-- a DNAME applies where the rest of the name matches its owner, unit by unit
+pub applies-match : (owner name below : List Unit) → (a : Applies owner name below) → Pairwise MatchUnit (a .rest) owner
+applies-match owner name below a = units-match (a .rest) owner .0 (a .alike)
 
 -- Tables in order that differ in spelling alone, asked for a name in two spellings: a lookup gives the same number, figures, addresses and TTLs. With one
 -- table it is said of two spellings of the given name.
@@ -103,19 +114,11 @@ respelt-none t = record {
   ttls = λ i h. refl;
 }
 
--- a reverse lookup by either of such tables gives the same number, name length and rewrites, and a name that matches
-module _ (t u : List ℕ) (r : Respelt t u) (o : InOrder t) (p : InOrder u) (s : Small t) (v : Small u) (address : List ℕ) (limit room : ℕ) where
-  end-alike : (x y : End) → reverse.keyEnd x ≡ reverse.keyEnd y → EndAlike x y
-  end-alike (refused j) (refused k) h = cc
-  end-alike (refused j) (ended n k) h = let z : _≡_ {A = ℕ} 0 1 = cc in omega arith
-  end-alike (ended m j) (refused k) h = let z : _≡_ {A = ℕ} 0 1 = cc in omega arith
-  end-alike (ended m j) (ended n k) h = (units-match m n .0 cc, cc)
-
-  pub reverse-respelt : (reverseAnswer t address limit room ≡ reverseAnswer u address limit room) × EndAlike (endOf t address limit room) (endOf u address limit room)
-  reverse-respelt = (
-    reverse.answer-respelt t u r o p s v address limit room,
-    end-alike (endOf t address limit room) (endOf u address limit room) (reverse.ends-respelt t u r o p s v address limit room),
-  )
+-- A reverse lookup by either of such tables gives the same number, name length and rewrites, and the names that are written are the same.
+pub reverse-respelt : (t u : List ℕ) → Respelt t u → InOrder t → InOrder u → Small t → Small u → (address : List ℕ) → Small address → length address ≡ addressSize → (limit room : ℕ)
+    → (reverseAnswer t address limit room ≡ reverseAnswer u address limit room) × Same (endName (endOf t address limit room)) (endName (endOf u address limit room))
+reverse-respelt t u r o p s v address a l limit room =
+    (reverse.answer-respelt t u r o p s v address limit room, reverse.names-respelt t u r o p s v address limit room a l)
 
 -- a collapse of a name in either of two spellings gives the same answer and writes the same octets
 pub collapse-respelt : (t x y : List ℕ) (size : ℕ) → Same x y → wellFormed x ≡ wellFormed y → (collapseAnswer t x size ≡ collapseAnswer t y size) × (collapseOut t x size ≡ collapseOut t y size)

@@ -1,3 +1,2 @@
 pub mod Demand1
 pub mod Demand2
-pub mod T03

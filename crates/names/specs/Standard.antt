@@ -45,8 +45,8 @@ encodeFrom run (bit b ∷ us) = encodeFrom (b ∷ run) us
 unfoldable pub encode : List Unit → List ℕ
 encode us = encodeFrom [] us
 
--- The standard form of a name (01's term): its units written with one bit label for each run. Octets that are no name have no labels and so no
--- units, and read as the root does. What runs asks for a name first; a statement about any octets, as in demand 3, takes such octets for the root.
+-- The standard form of a name (01's term): its units written with one bit label for each run. Octets that cannot be read as a name have no units, as the
+-- root has none; octets after a name are left out. What runs asks for a name first; a statement about any octets, as in demand 3, takes them so.
 unfoldable pub standardOf : List ℕ → List ℕ
 standardOf xs = encode (unitsOf xs)
 

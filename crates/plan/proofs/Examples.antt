@@ -126,12 +126,14 @@ good : List ℕ
 unfolding flat h64 p0 alias
 good = flat (h64 ∷ p0 ∷ p0 ∷ alias pa ha ∷ alias ha ha ∷ [])
 
--- no records, some, a length that is no multiple, a fault before and after two DNAMEs with one owner, those two alone, in two spellings too (T-03)
+-- no records, some, a length that is no multiple, a fault before and after two DNAMEs with one owner, those two alone, in two spellings too (T-03); bits that look like letters, and octets beside letters, are apart
 checks : map checkOf (
     [] ∷ good ∷ drop 1 good ∷ (good ++ (0 ∷ [])) ∷ take (recordSize - 1) good ∷ flat (alias ha pa ∷ h64 ∷ alias ha ha ∷ set p0 3 1 ∷ [])
     ∷ flat (set p0 3 1 ∷ alias ha pa ∷ alias ha ha ∷ []) ∷ flat (alias ha pa ∷ h64 ∷ alias ha ha ∷ []) ∷ flat (alias pa pa ∷ alias ha pa ∷ alias pa pa ∷ [])
-    ∷ flat (alias HA pa ∷ h64 ∷ alias ha ha ∷ []) ∷ flat (alias HA pa ∷ h64 ∷ alias pa ha ∷ []) ∷ [])
-    ≡ 0 ∷ 0 ∷ 1 ∷ 1 ∷ 1 ∷ 2 ∷ 2 ∷ 3 ∷ 3 ∷ 3 ∷ 0 ∷ []
+    ∷ flat (alias HA pa ∷ h64 ∷ alias ha ha ∷ []) ∷ flat (alias HA pa ∷ h64 ∷ alias pa ha ∷ [])
+    ∷ flat (alias (65 ∷ 8 ∷ 65 ∷ 1 ∷ 97 ∷ 0 ∷ []) pa ∷ alias (65 ∷ 8 ∷ 97 ∷ 1 ∷ 97 ∷ 0 ∷ []) ha ∷ [])
+    ∷ flat (alias (1 ∷ 91 ∷ 0 ∷ []) pa ∷ alias (1 ∷ 123 ∷ 0 ∷ []) ha ∷ []) ∷ [])
+    ≡ 0 ∷ 0 ∷ 1 ∷ 1 ∷ 1 ∷ 2 ∷ 2 ∷ 3 ∷ 3 ∷ 3 ∷ 0 ∷ 0 ∷ 0 ∷ []
 unfolding tables-compute good h64 p0 alias
 checks = refl
 

@@ -53,6 +53,19 @@ none-from f i zero h = omega arith
 none-from f i (suc n) h =
     rw (firstFrom, h i (omega arith) (omega arith)) (none-from f (suc i) n (λ k p q. h k (omega arith) (omega arith)) ∙ omega arith)
 
+-- the first number that passes does
+from-some : (f : ℕ → Bool) (i n : ℕ) → firstFrom f i n < i + n → f (firstFrom f i n) ≡ true
+unfolding firstFrom
+from-some f i zero h = let z : ⊥ = omega arith in absurd z
+from-some f i (suc n) h = go (f i) refl (from-some f (suc i) n)
+  where
+    go : (t : Bool) → f i ≡ t → (firstFrom f (suc i) n < suc i + n → f (firstFrom f (suc i) n) ≡ true) → f (firstFrom f i (suc n)) ≡ true
+    go true e ih = rw (firstFrom, e) e
+    go false e ih = let k : firstFrom f (suc i) n < i + suc n = rw (firstFrom, e) at h in rw (firstFrom, e) (ih (omega arith))
+
+pub first-some : (f : ℕ → Bool) (n : ℕ) → first f n < n → f (first f n) ≡ true
+first-some f n h = from-some f 0 n (omega arith)
+
 -- none of the numbers below n passes
 module _ (f : ℕ → Bool) (n : ℕ) where
   pub first-none : first f n ≡ n → (i : ℕ) → i < n → f i ≡ false

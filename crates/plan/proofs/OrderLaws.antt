@@ -3,6 +3,7 @@ use Prim.Native.Nat.{ℕ, _*_, _%_, _≤_, _<_}
 use mathlib.Core.Path.{_≡_, refl, ap, _∙_, sym}
 use mathlib.Core.Bool.{Bool, true, false, not, _||_}
 use mathlib.Core.List.{List, []}
+use mathlib.Core.Logic.{_↔_}
 use lib.Dec.{ltb, eqb}
 use lib.ListN.{length, getD}
 use native.Mathlib.Omega.{arith}
@@ -10,17 +11,19 @@ use borrow.Author.Tests.{eq-eqb, ne-eqb, eqb-true, lt-ltb, le-ltb, ltb-true, ltb
 use Rattle.octets.specs.Octets.{flat}
 use Rattle.octets.proofs.AnswerLaws.{earns-zero}
 use Rattle.octets.specs.Answers.{refusal}
-use Rattle.names.specs.Standard.{sameName, inStandardForm}
+use Rattle.octets.proofs.BoolLaws.{clash}
+use Rattle.chains.proofs.ListLaws.{both-true}
+use Rattle.names.specs.Standard.{Same, sameName, inStandardForm}
 use Rattle.names.proofs.StandardLaws.{same-name-same, same-same-name}
 use Rattle.names.proofs.RoundLaws.{same-symmetric}
-use Rattle.plan.specs.First.{some}
+use Rattle.plan.specs.First.{first, some}
 use Rattle.plan.specs.Layout.{recordSize, maxRecords, dname, typeOf, isDname, countOf, recordAt, ownerAt, ownerOf}
 use Rattle.plan.specs.Records.{typeAt}
-use Rattle.plan.specs.Check.{faultOf, faulty, firstFault, twin, repeats, firstRepeat, missized, checkOf, checkAnswer, InOrder}
+use Rattle.plan.specs.Check.{faultOf, faulty, firstFault, twin, repeats, firstRepeat, Shared, missized, checkOf, checkAnswer, InOrder}
 use Rattle.plan.specs.Good.{Good}
 use Rattle.plan.proofs.LayoutLaws.{Whole, octets-length, count-octets, record-octets}
 use Rattle.plan.proofs.SlotLaws.{bool-iff}
-use Rattle.plan.proofs.FirstLaws.{first-none, none-first, some-none, none-some}
+use Rattle.plan.proofs.FirstLaws.{first-none, first-some, none-first, some-none, none-some}
 use Rattle.plan.proofs.FaultLaws.{fault-good, good-fault, type-is, is-type}
 
 -- a table in which no record is at fault
@@ -88,6 +91,24 @@ same-name-sym : (m n : List ℕ) → sameName m n ≡ sameName n m
 same-name-sym m n =
     bool-iff (sameName m n) (sameName n m) (λ h. same-same-name n m (same-symmetric m n (same-name-same m n h))) (λ h. same-same-name m n (same-symmetric n m (same-name-same n m h)))
 
+-- the parts of the tests for 3
+module _ (t : List ℕ) where
+  repeat-first : firstRepeat t < countOf t → repeats t (firstRepeat t) ≡ true
+  unfolding firstRepeat
+  repeat-first h = first-some (repeats t) (countOf t) h
+
+  repeat-none : ltb (firstRepeat t) (countOf t) ≡ false → firstRepeat t ≡ countOf t
+  unfolding firstRepeat
+  repeat-none h = some-none (repeats t) (countOf t) h
+
+  repeats-parts : (j : ℕ) → repeats t j ≡ true → (typeAt t j ≡ dname) × (some (twin t j) j ≡ true)
+  unfolding repeats
+  repeats-parts j h = let p = both-true (isDname (recordAt t j)) (some (twin t j) j) h in (is-type (recordAt t j) (p .0), p .1)
+
+  twin-parts : (j i : ℕ) → twin t j i ≡ true → (typeAt t i ≡ dname) × Same (ownerAt t i) (ownerAt t j)
+  unfolding twin
+  twin-parts j i h = let p = both-true (isDname (recordAt t i)) (sameName (ownerAt t i) (ownerAt t j)) h in (is-type (recordAt t i) (p .0), same-name-same (ownerAt t i) (ownerAt t j) (p .1))
+
 -- DNAMEs that do not repeat an owner
 apart : (t : List ℕ) → firstRepeat t ≡ countOf t → (i j : ℕ) → i < j → j < countOf t → typeAt t i ≡ dname → typeAt t j ≡ dname → sameName (ownerAt t i) (ownerAt t j) ≡ false
 unfolding firstRepeat repeats twin
@@ -96,6 +117,35 @@ apart t s i j p q d e =
     let u : some (twin t j) j ≡ false = rw (type-is (recordAt t j) e) at r in
     let v : twin t j i ≡ false = first-none (twin t j) j (some-none (twin t j) j u) i p in
     rw (type-is (recordAt t i) d) at v
+
+-- Theorem: a DNAME has the owner of an earlier one exactly when two DNAMEs have the same owner
+pub repeat-shared : (t : List ℕ) → (ltb (firstRepeat t) (countOf t) ≡ true) ↔ Shared t
+repeat-shared t = (there, back)
+  where
+    there : ltb (firstRepeat t) (countOf t) ≡ true → Shared t
+    there h =
+        let p : firstRepeat t < countOf t = ltb-true (firstRepeat t) (countOf t) h in
+        let r = repeats-parts t (firstRepeat t) (repeat-first t p) in
+        let q : first (twin t (firstRepeat t)) (firstRepeat t) < firstRepeat t = ltb-true (first (twin t (firstRepeat t)) (firstRepeat t)) (firstRepeat t) (r .1) in
+        let w = twin-parts t (firstRepeat t) (first (twin t (firstRepeat t)) (firstRepeat t)) (first-some (twin t (firstRepeat t)) (firstRepeat t) q) in
+        record {
+          first = first (twin t (firstRepeat t)) (firstRepeat t);
+          second = firstRepeat t;
+          order = q;
+          there = p;
+          one = w .0;
+          other = r .0;
+          owner = w .1;
+        }
+
+    back : Shared t → ltb (firstRepeat t) (countOf t) ≡ true
+    back s = go (ltb (firstRepeat t) (countOf t)) refl
+      where
+        go : (b : Bool) → ltb (firstRepeat t) (countOf t) ≡ b → ltb (firstRepeat t) (countOf t) ≡ true
+        go true e = e
+        go false e =
+            let z = apart t (repeat-none t e) (s .first) (s .second) (s .order) (s .there) (s .one) (s .other) in
+            absurd (clash (same-same-name (ownerAt t (s .first)) (ownerAt t (s .second)) (s .owner)) z)
 
 -- a table in order has whole records, not too many, each of them good, and no two DNAMEs with one owner
 module _ (t : List ℕ) (o : InOrder t) where

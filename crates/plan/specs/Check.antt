@@ -1,5 +1,5 @@
 -- The check of a table (01, The plan table; What comes back, 1 to 3; T-01).
-use Prim.Native.Nat.{ℕ, _%_}
+use Prim.Native.Nat.{ℕ, _%_, _<_}
 use mathlib.Core.Path.{_≡_}
 use mathlib.Core.Bool.{Bool, true, false, not, _&&_, _||_}
 use mathlib.Core.List.{List}
@@ -9,11 +9,12 @@ use Rattle.octets.specs.Octets.{blank, same}
 use Rattle.octets.specs.Answers.{earns, orElse, refusal}
 use Rattle.labels.specs.Scan.{wellFormed}
 use Rattle.octets.specs.declared.Answer.{Answer}
-use Rattle.names.specs.Standard.{sameName, inStandardForm}
+use Rattle.names.specs.Standard.{Same, sameName, inStandardForm}
 use Rattle.address.specs.Address.{clearTo}
 use Rattle.chains.specs.Graph.{maxTtl}
 use Rattle.plan.specs.First.{first, some}
-use Rattle.plan.specs.Layout.{recordSize, maxRecords, slotSize, prefixOf, zeroOf, addressOf, ownerSlot, targetSlot, ttlOf, nameIn, slotOf, isA6, isDname, countOf, recordAt, ownerAt}
+use Rattle.plan.specs.Records.{typeAt}
+use Rattle.plan.specs.Layout.{recordSize, maxRecords, slotSize, dname, prefixOf, zeroOf, addressOf, ownerSlot, targetSlot, ttlOf, nameIn, slotOf, isA6, isDname, countOf, recordAt, ownerAt}
 
 -- the slot holds a name in standard form that fills the length, and zeros after it
 unfoldable pub slotGood : List ℕ → Bool
@@ -73,6 +74,16 @@ repeats t j = isDname (recordAt t j) && some (twin t j) j
 -- the first record that is such a DNAME
 unfoldable pub firstRepeat : List ℕ → ℕ
 firstRepeat t = first (repeats t) (countOf t)
+
+-- 3 as a statement: two DNAMEs have the same owner
+pub record Shared (t : List ℕ) : Type 0 where
+  pub first : ℕ
+  pub second : ℕ
+  pub order : first < second
+  pub there : second < countOf t
+  pub one : typeAt t first ≡ dname
+  pub other : typeAt t second ≡ dname
+  pub owner : Same (ownerAt t first) (ownerAt t second)
 
 -- the length is no multiple of a record's, or makes too many records
 unfoldable pub missized : List ℕ → Bool

@@ -7,13 +7,17 @@ use mathlib.Core.List.{List, [], _∷_, _++_, map, map-append}
 use lib.Dec.{ltb, eqb}
 use lib.ListN.{length, take, drop, length-append, length-map}
 use native.Mathlib.Omega.{arith}
+use borrow.Author.Tests.{ltb-false}
 use Rattle.octets.specs.Octets.{Small}
 use Rattle.octets.specs.Answers.{answerBy}
-use Rattle.names.specs.Standard.{Unit, label, bit, unitsOf, bitLabel, encodeFrom, encode, lower, keyUnit, keys}
-use Rattle.names.proofs.KeyLaws.{key-twice, same-units}
+use Rattle.names.specs.Standard.{Unit, label, bit, unitsOf, bitLabel, encodeFrom, encode, lower, keyUnit, keys, Same}
+use Rattle.names.proofs.KeyLaws.{key-twice, same-units, keys-same}
+use Rattle.names.proofs.WriteLaws.{well-reads}
+use Rattle.names.proofs.RoundLaws.{fit-labels}
 use Rattle.names.proofs.StandardLaws.{in-standard}
-use Rattle.chains.specs.Lists.{pick, upTo}
-use Rattle.plan.specs.Layout.{dname, ownerSlot, targetSlot, isDname, countOf, recordAt, ownerAt, targetAt, isType}
+use Rattle.labels.specs.Scan.{scanOf, labelsOf}
+use Rattle.chains.specs.Lists.{In, pick, upTo}
+use Rattle.plan.specs.Layout.{addressSize, dname, ownerSlot, targetSlot, isDname, countOf, recordAt, ownerAt, targetAt, isType}
 use Rattle.plan.specs.Check.{InOrder}
 use Rattle.plan.specs.Respelt.{Respelt}
 use Rattle.plan.proofs.LayoutLaws.{record-small}
@@ -21,8 +25,13 @@ use Rattle.plan.proofs.RecordLaws.{owner-small, target-small}
 use Rattle.plan.proofs.SlotLaws.{name-small}
 use Rattle.rewriting.specs.Rewrite.{sameUnits, belowOf, rewriteOf, longRun, tooLarge}
 use Rattle.reverse.specs.Walk.{startOf, Rule, Due, none, due, better, dueFrom, dueOf, End, refused, ended, walkOf}
-use Rattle.reverse.specs.Answers.{ruleOf, rulesOf, earlyNumber, endOf, answerFor, reverseAnswer}
-use Rattle.reverse.proofs.TableLaws.{owner-form, target-form}
+use Rattle.reverse.specs.Answers.{ruleOf, rulesOf, earlyNumber, endOf, endName, answerFor, reverseAnswer}
+use Rattle.rewriting.proofs.FormLaws.{FitUnits, fit-append, fit-units, encode-units}
+use Rattle.rewriting.proofs.LargeLaws.{or-false}
+use Rattle.reverse.specs.Relation.{Rewrites, Path, here, then}
+use Rattle.reverse.proofs.Demand.{walk-is}
+use Rattle.reverse.proofs.StartLaws.{length-start, short-start, fit-start}
+use Rattle.reverse.proofs.TableLaws.{owner-form, target-form, rule-source, rules-one}
 use Rattle.reverse.proofs.WalkLaws.{walk-ended, walk-out, walk-large, walk-on}
 
 -- rules, rewrites and ends with keys for units
@@ -162,6 +171,49 @@ answer-keys : (x : End) → answerFor x ≡ answerFor (keyEnd x)
 answer-keys (refused n) = refl
 answer-keys (ended name rewrites) = ap (λ (k : ℕ). answerBy 0 k rewrites) (encode-keys name)
 
+-- ---- the names that a walk comes to can be written, and are read back
+record Whole (us : List Unit) : Type 0 where
+  fit : FitUnits us
+  runs : longRun 0 us ≡ false
+  short : length (encode us) ≤ 255
+
+front-fit : (us vs : List Unit) → FitUnits (us ++ vs) → FitUnits us
+front-fit [] vs f = record {}
+front-fit (label l ∷ us) vs f = (f .0, f .1, front-fit us vs (f .2))
+front-fit (bit b ∷ us) vs f = (f .0, front-fit us vs (f .1))
+
+rewritten-whole : (rules : List Rule) (name next : List Unit) → Rewrites rules name next → tooLarge next ≡ false → ((r : Rule) → In r rules → FitUnits (r .target)) → FitUnits name → Whole next
+unfolding tooLarge
+rewritten-whole rules name next r g f w =
+    let o = or-false (longRun 0 next) (ltb 255 (length (encode next))) g in
+    record {
+      fit = rw (r .result) (fit-append (r .below) (r .rule .target) (front-fit (r .below) (r .applies .rest) (rw (r .applies .whole) at w)) (f (r .rule) (r .listed)));
+      runs = o .0;
+      short = ltb-false 255 (length (encode next)) (o .1);
+    }
+
+path-whole : {rules : List Rule} {name last : List Unit} {n : ℕ} → Path rules name n last → ((r : Rule) → In r rules → FitUnits (r .target)) → Whole name → Whole last
+path-whole (here {rules} {name}) f w = w
+path-whole (then {rules} {name} {next} {last} {n} r g p) f w = path-whole p f (rewritten-whole rules name next r g f (w .fit))
+
+-- names whose keys are the same, written
+written-same : (m n : List Unit) → Whole m → Whole n → keys m ≡ keys n → Same (encode m) (encode n)
+written-same m n v w e = keys-same (encode m) (encode n) (ap keys (encode-units m (v .fit) (v .runs) (v .short)) ∙ e ∙ sym (ap keys (encode-units n (w .fit) (w .runs) (w .short))))
+
+-- of a table in order
+module _ (t : List ℕ) (o : InOrder t) where
+  targets-fit : (r : Rule) → In r (rulesOf t) → FitUnits (r .target)
+  unfolding ruleOf rulesOf unitsOf
+  targets-fit r i =
+      let f = rule-source t (countOf t) r i in
+      let w = in-standard (targetAt t (f .index)) (target-form t o (f .index) (f .below) (f .dname)) .0 in
+      rw (f .is) (fit-units (labelsOf (scanOf (targetAt t (f .index)))) (fit-labels (well-reads (targetAt t (f .index)) w)))
+
+  end-whole : (address : List ℕ) → Small address → length address ≡ addressSize → (limit : ℕ) (last : List Unit) (n : ℕ) → walkOf limit 0 (rulesOf t) (startOf address) ≡ ended last n → Whole last
+  end-whole address s l limit last n e =
+      let w = walk-is limit (rulesOf t) (rules-one t o) (startOf address) .ends last n .0 e in
+      path-whole (w .path) targets-fit (record { fit = fit-start address s l; runs = short-start address s l; short = length-start address s l })
+
 -- a call ends early by its number, or where the walk does
 end-early : (t address : List ℕ) (limit room n : ℕ) → earlyNumber t address room ≡ suc n → endOf t address limit room ≡ refused (suc n)
 unfolding endOf
@@ -235,3 +287,20 @@ module _ (t u : List ℕ) (r : Respelt t u) (o : InOrder t) (p : InOrder u) (s :
     -- Theorem: number, length and rewrites are the same
     pub answer-respelt : reverseAnswer t address limit room ≡ reverseAnswer u address limit room
     answer-respelt = answer-keys (endOf t address limit room) ∙ ap answerFor ends-respelt ∙ sym (answer-keys (endOf u address limit room))
+
+    -- Theorem: the names that are written are the same
+    pub names-respelt : Small address → length address ≡ addressSize → Same (endName (endOf t address limit room)) (endName (endOf u address limit room))
+    names-respelt a l = go (earlyNumber u address room) refl
+      where
+        ends : (x y : End) → walkOf limit 0 (rulesOf t) (startOf address) ≡ x → walkOf limit 0 (rulesOf u) (startOf address) ≡ y → keyEnd x ≡ keyEnd y → Same (endName x) (endName y)
+        ends (refused j) (refused k) e f h = refl
+        ends (refused j) (ended n k) e f h = let z : _≡_ {A = ℕ} 0 1 = cc in let y : ⊥ = omega arith in absurd y
+        ends (ended m j) (refused k) e f h = let z : _≡_ {A = ℕ} 0 1 = cc in let y : ⊥ = omega arith in absurd y
+        ends (ended m j) (ended n k) e f h = written-same m n (end-whole t o address a l limit m j e) (end-whole u p address a l limit n k f) cc
+
+        go : (n : ℕ) → earlyNumber u address room ≡ n → Same (endName (endOf t address limit room)) (endName (endOf u address limit room))
+        go (suc n) e = rw (end-early t address limit room n (early-same ∙ e), end-early u address limit room n e) refl
+        go zero e =
+            let d = end-late t address limit room (early-same ∙ e) in
+            let f = end-late u address limit room e in
+            rw (d, f) (ends (walkOf limit 0 (rulesOf t) (startOf address)) (walkOf limit 0 (rulesOf u) (startOf address)) refl refl (ap keyEnd (sym d) ∙ ends-respelt ∙ ap keyEnd f))

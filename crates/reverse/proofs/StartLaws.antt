@@ -53,14 +53,14 @@ module _ (address : List ℕ) (s : Small address) (l : length address ≡ 16) wh
       q ∙ ap (λ (z : List ℕ). paste z 18 suffix 10) w ∙ ap (λ (ys : List ℕ). 65 ∷ 128 ∷ ((ys ++ suffix) ++ drop 26 (address ++ noughts))) t ∙ ap (λ (ys : List ℕ). 65 ∷ 128 ∷ ((address ++ suffix) ++ ys)) d
       ∙ ap (λ (ys : List ℕ). 65 ∷ 128 ∷ ys) (append-nil (address ++ suffix)) ∙ sym start-octets
 
-  length-start : length (encode (startOf address)) ≤ 255
+  pub length-start : length (encode (startOf address)) ≤ 255
   length-start = let n = ap length start-octets in let a = length-append address suffix in omega arith
 
-  short-start : longRun 0 (startOf address) ≡ false
+  pub short-start : longRun 0 (startOf address) ≡ false
   unfolding startOf longRun
   short-start = let n : length (bs ++ []) ≡ 128 = ap length (append-nil bs) ∙ bits-length in long-before bs [] rest ∙ rw n
 
-  fit-start : FitUnits (startOf address)
+  pub fit-start : FitUnits (startOf address)
   unfolding startOf
   fit-start = fit-before bs rest (unpack-bits 128 address) (omega arith, omega arith, (omega arith, omega arith, record {}))
 

@@ -62,13 +62,13 @@ in-append r (s ∷ rs) qs (inl e) = inl (inl e)
 in-append r (s ∷ rs) qs (inr i) = ⊎-elim (λ j. inl (inr j)) (λ j. inr j) (in-append r rs qs i)
 
 -- a rule of the table is that of a DNAME record
-record Source (t : List ℕ) (n : ℕ) (r : Rule) : Type 0 where
-  index : ℕ
-  below : index < n
-  dname : isDname (recordAt t index) ≡ true
-  is : r ≡ ruleOf (recordAt t index)
+pub record Source (t : List ℕ) (n : ℕ) (r : Rule) : Type 0 where
+  pub index : ℕ
+  pub below : index < n
+  pub dname : isDname (recordAt t index) ≡ true
+  pub is : r ≡ ruleOf (recordAt t index)
 
-rule-source : (t : List ℕ) (n : ℕ) (r : Rule) → In r (rulesTo t n) → Source t n r
+pub rule-source : (t : List ℕ) (n : ℕ) (r : Rule) → In r (rulesTo t n) → Source t n r
 unfolding upTo
 rule-source t zero r i = absurd i
 rule-source t (suc n) r i = go (isDname (recordAt t n)) refl (λ j. rule-source t n r j)
