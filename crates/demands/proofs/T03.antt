@@ -1,7 +1,7 @@
 -- T-03, letters of either case: when names are the same, and that nothing but written names sees their spelling, of the definitions that the running
 -- functions meet (Demand1).
-use Prim.Native.Nat.{ℕ, _<_}
-use mathlib.Core.Path.{_≡_, refl, _∙_, sym}
+use Prim.Native.Nat.{ℕ}
+use mathlib.Core.Path.{_≡_, refl}
 use mathlib.Core.Bool.{Bool, true, false}
 use mathlib.Core.List.{List}
 use mathlib.Core.Logic.{_↔_}
