@@ -6,7 +6,7 @@
 static const char *const refusals[] = {
     [1] = "the table is no whole number of records of 536 octets, or has more than 1,024",
     [2] = "a record is out of order: a type, prefix length, bit, name or TTL is not as it must be",
-    [3] = "two DNAMEs have the same owner",
+    [3] = "two DNAMEs have the same owner (the case of letters does not count)",
     [4] = "the name is malformed, or cut short: its slot has 256 octets",
     [5] = "the output, the TTLs or the figures have another length than is asked",
     [6] = "the name has more chains than the limit, 10,000",

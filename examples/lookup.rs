@@ -12,7 +12,7 @@ const REFUSALS: [&str; 8] = [
     "",
     "the table is no whole number of records of 536 octets, or has more than 1,024",
     "a record is out of order: a type, prefix length, bit, name or TTL is not as it must be",
-    "two DNAMEs have the same owner",
+    "two DNAMEs have the same owner (the case of letters does not count)",
     "the name is malformed, or cut short: its slot has 256 octets",
     "the output, the TTLs or the figures have another length than is asked",
     "the name has more chains than the limit, 10,000",

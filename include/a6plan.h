@@ -10,7 +10,8 @@
  * where the call earns no number that comes before 5.
  *
  * Names are the same where they differ in nothing but how a run of bits is cut into bit labels, and in the case of the letters
- * A to Z inside ordinary labels. What is written has its letters as they were given, or as the table has them.
+ * A to Z inside ordinary labels. What is written has its letters as they were given, or as the table has them. A caller that
+ * compares names itself has to put A to Z and a to z together inside ordinary labels only: a bit label begins with 65, an A.
  */
 #ifndef A6PLAN_H
 #define A6PLAN_H
@@ -110,6 +111,7 @@ uint32_t a6plan_lookup(const uint8_t *table, size_t table_length,
 
 /*
  * The name where the rewriting of an address's reverse name by DNAMEs ends, then zeros. figures: its length, and the rewrites.
+ * The reverse name begins as a bit label and IP6.ARPA, in capitals.
  * 1, 2, 3: the table. 4: the address is not of sixteen octets. 5: the output is not of 255 octets.
  * 6: a rewrite is due and none is left of the limit. 8: a rewrite gives a name that is too large.
  */
@@ -120,8 +122,8 @@ uint32_t a6plan_reverse(const uint8_t *table, size_t table_length,
 
 /*
  * The table in which each unfinished A6 record of a name is replaced by what it makes with the records of its target, each
- * time with the smaller TTL of the two, then zeros. figures: how many records, and 0. Every name keeps its addresses. Each
- * owner is spelt as in the table, whatever the spelling of the given name.
+ * time with the smaller TTL of the two, then zeros. figures: how many records, and 0. Every name keeps its addresses.
+ * Owners and targets are spelt as in the table, whatever the spelling of the given name.
  * 1, 2, 3: the table. 4: the name is malformed. 5: the output is no multiple of 536 octets.
  * 9: an ignored record could come back. 7: the new table has more records than the output has room for, or than 1,024.
  */

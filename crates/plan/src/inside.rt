@@ -277,7 +277,7 @@ pub fn same(a: &[u8], b: &[u8]) -> bool
     same_spelt(a, b)
 }
 
-// The same by the labels of the names. After a name a slot is zero, so that 32 octets, or all, are compared where fewer would do, which is faster.
+// The same by the labels of the names. After a name a slot is zero, so that whole pieces of 32 octets are compared, which is faster.
 fn same_spelt(a: &[u8], b: &[u8]) -> bool
     requires { ⌜ (length (now a) ≡ slotSize) × (length (now b) ≡ slotSize) × Holds (now a) × Holds (now b) ⌝ }
     ensures { λ r. ⌜ r ≡ sameName (nameIn (now (a .entry))) (nameIn (now (b .entry))) ⌝ }
@@ -290,14 +290,11 @@ fn same_spelt(a: &[u8], b: &[u8]) -> bool
     names::inside::same_labels(&a[..k], &b[..k], 1, 1 + octets::wide(n))
 }
 
-// The octets of a slot that are compared where its name has so many.
+// The octets of a slot that are compared where its name has so many: a multiple of 32.
 fn pieces(n: u8) -> usize
     ensures { λ r. ⌜ (1 + n ≤ r) × (r ≤ slotSize) ⌝ }
 {
-    if n < 32 {
-        return 32;
-    }
-    256
+    octets::wide(n) / 32 * 32 + 32
 }
 
 // Whether the first 32 octets of two slots are the same and hold their names whole: most names that are the same are told by this alone.
