@@ -16,13 +16,13 @@ use Rattle.chains.proofs.ListLaws.{true-both, both-true}
 use Rattle.plan.specs.First.{firstFrom}
 use Rattle.plan.specs.Layout.{maxRecords, ownerSlot, targetSlot, countOf, recordAt, prefixAt, ownerAt, targetAt}
 use Rattle.plan.specs.Check.{InOrder}
-use Rattle.plan.proofs.FirstLaws.{first-on, first-here, first-most}
+use Rattle.plan.proofs.FirstLaws.{first-on, first-here, first-most, from-some}
 use Rattle.plan.proofs.FaultLaws.{targetless-on}
 use Rattle.plan.proofs.OrderLaws.{order-count, order-good}
 use Rattle.plan.proofs.MarkLaws.{same-mark}
 use Rattle.collapse.specs.Fold.{continues, madeOf}
 use Rattle.collapse.specs.Running.{bucketOf, belongs, firstIn, Linked}
-use Rattle.collapse.proofs.TestLaws.{first-passes, continues-is}
+use Rattle.collapse.proofs.TestLaws.{continues-is}
 use Rattle.collapse.proofs.FoldLaws.{made-off}
 
 -- ---- the first number that passes a test
@@ -61,7 +61,7 @@ module _ (t : List ℕ) (b : ℕ) where
 
   first-found : (i : ℕ) → i ≤ maxRecords → firstIn t b i < maxRecords → belongs t b (firstIn t b i) ≡ true
   unfolding firstIn
-  first-found i h l = first-passes (belongs t b) i (maxRecords - i) (omega arith)
+  first-found i h l = from-some (belongs t b) i (maxRecords - i) (omega arith)
 
   belongs-is : (j : ℕ) → belongs t b j ≡ true → (j < countOf t) × (bucketOf (ownerSlot (recordAt t j)) ≡ b)
   unfolding belongs

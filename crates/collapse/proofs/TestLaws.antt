@@ -1,17 +1,15 @@
 -- The tests of records decide the statements about them.
-use Prim.Native.Nat.{ℕ, zero, suc, _+_, _<_}
-use mathlib.Core.Path.{_≡_, refl}
-use mathlib.Core.Bool.{Bool, true, false, _&&_}
+use Prim.Native.Nat.{ℕ, _<_}
+use mathlib.Core.Path.{_≡_}
+use mathlib.Core.Bool.{Bool, true, _&&_}
 use mathlib.Core.List.{List}
-use native.Mathlib.Omega.{arith}
 use borrow.Author.Tests.{lt-ltb, ltb-true, le-leb, leb-true}
-use Rattle.octets.proofs.BoolLaws.{clash}
 use Rattle.names.specs.Standard.{Same, sameName}
 use Rattle.names.proofs.StandardLaws.{same-name-same, same-same-name}
 use Rattle.chains.proofs.ListLaws.{both-true}
-use Rattle.plan.specs.First.{firstFrom, some}
+use Rattle.plan.specs.First.{some}
 use Rattle.plan.specs.Layout.{a6, typeOf, prefixOf, ownerOf, targetOf, countOf, recordAt}
-use Rattle.plan.proofs.FirstLaws.{first-none, some-none}
+use Rattle.plan.proofs.FirstLaws.{some-has, has-some}
 use Rattle.plan.proofs.FaultLaws.{type-is, is-type}
 use Rattle.collapse.specs.Fold.{leads, unfinished, continues, refers, ignores, reviving}
 use Rattle.collapse.specs.Rule.{Unfinished, Continues, Refers, Reviving}
@@ -65,27 +63,6 @@ pub is-continues : (r q : List ℕ) → Continues r q → continues r q ≡ true
 unfolding continues
 is-continues r q u =
     three-true _ _ _ (type-is q (u .0)) (le-leb _ _ (u .1)) (same-same-name (ownerOf q) (targetOf r) (u .2))
-
--- ---- some number below n passes a test
-pub first-passes : (f : ℕ → Bool) (i n : ℕ) → firstFrom f i n < i + n → f (firstFrom f i n) ≡ true
-unfolding firstFrom
-first-passes f i zero h = let z : ⊥ = omega arith in absurd z
-first-passes f i (suc n) h = go (f i) refl (first-passes f (suc i) n)
-  where
-    go : (b : Bool) → f i ≡ b → (firstFrom f (suc i) n < suc i + n → f (firstFrom f (suc i) n) ≡ true) → f (firstFrom f i (suc n)) ≡ true
-    go true e ih = rw (firstFrom, e) e
-    go false e ih = let k : firstFrom f (suc i) n < i + suc n = rw (firstFrom, e) at h in rw (firstFrom, e) (ih (omega arith))
-
-module _ (f : ℕ → Bool) (n : ℕ) where
-  pub some-has : some f n ≡ true → (i : ℕ) × (i < n) × (f i ≡ true)
-  some-has h = let l = ltb-true (firstFrom f 0 n) n h in (firstFrom f 0 n, l, first-passes f 0 n (omega arith))
-
-  pub has-some : (i : ℕ) → i < n → f i ≡ true → some f n ≡ true
-  has-some i h e = go (some f n) refl
-    where
-      go : (b : Bool) → some f n ≡ b → some f n ≡ true
-      go true p = p
-      go false p = absurd (clash e (first-none f n (some-none f n p) i h))
 
 -- ---- test 9
 pub reviving-is : (x t : List ℕ) → reviving x t ≡ true → Reviving x t

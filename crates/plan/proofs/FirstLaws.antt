@@ -5,7 +5,8 @@ use mathlib.Core.Bool.{Bool, true, false}
 use lib.Dec.{eqb}
 use native.Mathlib.Omega.{arith}
 use native.Mathlib.Numerals.{add-one}
-use borrow.Author.Tests.{le-ltb, ltb-false, eqb-true, eqb-false}
+use borrow.Author.Tests.{le-ltb, ltb-true, ltb-false, eqb-true, eqb-false}
+use Rattle.octets.proofs.BoolLaws.{clash}
 use Rattle.plan.specs.First.{firstFrom, first, some}
 
 -- the turns of a loop that looks for it, with the number i reached
@@ -54,7 +55,7 @@ none-from f i (suc n) h =
     rw (firstFrom, h i (omega arith) (omega arith)) (none-from f (suc i) n (λ k p q. h k (omega arith) (omega arith)) ∙ omega arith)
 
 -- the first number that passes does
-from-some : (f : ℕ → Bool) (i n : ℕ) → firstFrom f i n < i + n → f (firstFrom f i n) ≡ true
+pub from-some : (f : ℕ → Bool) (i n : ℕ) → firstFrom f i n < i + n → f (firstFrom f i n) ≡ true
 unfolding firstFrom
 from-some f i zero h = let z : ⊥ = omega arith in absurd z
 from-some f i (suc n) h = go (f i) refl (from-some f (suc i) n)
@@ -62,9 +63,6 @@ from-some f i (suc n) h = go (f i) refl (from-some f (suc i) n)
     go : (t : Bool) → f i ≡ t → (firstFrom f (suc i) n < suc i + n → f (firstFrom f (suc i) n) ≡ true) → f (firstFrom f i (suc n)) ≡ true
     go true e ih = rw (firstFrom, e) e
     go false e ih = let k : firstFrom f (suc i) n < i + suc n = rw (firstFrom, e) at h in rw (firstFrom, e) (ih (omega arith))
-
-pub first-some : (f : ℕ → Bool) (n : ℕ) → first f n < n → f (first f n) ≡ true
-first-some f n h = from-some f 0 n (omega arith)
 
 -- none of the numbers below n passes
 module _ (f : ℕ → Bool) (n : ℕ) where
@@ -79,3 +77,15 @@ module _ (f : ℕ → Bool) (n : ℕ) where
 
   pub none-some : first f n ≡ n → some f n ≡ false
   none-some h = le-ltb (first f n) n (omega arith)
+
+-- some number below n passes
+module _ (f : ℕ → Bool) (n : ℕ) where
+  pub some-has : some f n ≡ true → (i : ℕ) × (i < n) × (f i ≡ true)
+  some-has h = let l = ltb-true (first f n) n h in (first f n, l, from-some f 0 n (omega arith))
+
+  pub has-some : (i : ℕ) → i < n → f i ≡ true → some f n ≡ true
+  has-some i h e = go (some f n) refl
+    where
+      go : (b : Bool) → some f n ≡ b → some f n ≡ true
+      go true p = p
+      go false p = absurd (clash e (first-none f n (some-none f n p) i h))

@@ -11,7 +11,6 @@ use borrow.Author.Tests.{eq-eqb, ne-eqb, eqb-true, lt-ltb, le-ltb, ltb-true, ltb
 use Rattle.octets.specs.Octets.{flat}
 use Rattle.octets.proofs.AnswerLaws.{earns-zero}
 use Rattle.octets.specs.Answers.{refusal}
-use Rattle.octets.proofs.BoolLaws.{clash}
 use Rattle.chains.proofs.ListLaws.{both-true}
 use Rattle.names.specs.Standard.{Same, sameName, inStandardForm}
 use Rattle.names.proofs.StandardLaws.{same-name-same, same-same-name}
@@ -23,7 +22,7 @@ use Rattle.plan.specs.Check.{faultOf, faulty, firstFault, twin, repeats,
 use Rattle.plan.specs.Good.{Good}
 use Rattle.plan.proofs.LayoutLaws.{Whole, octets-length, count-octets, record-octets}
 use Rattle.plan.proofs.SlotLaws.{bool-iff}
-use Rattle.plan.proofs.FirstLaws.{first-none, first-some, none-first, some-none, none-some}
+use Rattle.plan.proofs.FirstLaws.{first-none, none-first, some-none, none-some, some-has, has-some}
 use Rattle.plan.proofs.FaultLaws.{fault-good, good-fault, type-is, is-type}
 
 -- a table in which no record is at fault
@@ -93,21 +92,29 @@ same-name-sym m n =
 
 -- the parts of the tests for 3
 module _ (t : List ℕ) where
-  repeat-first : firstRepeat t < countOf t → repeats t (firstRepeat t) ≡ true
+  repeat-has : ltb (firstRepeat t) (countOf t) ≡ true → (j : ℕ) × (j < countOf t) × (repeats t j ≡ true)
   unfolding firstRepeat
-  repeat-first h = first-some (repeats t) (countOf t) h
+  repeat-has = some-has (repeats t) (countOf t)
 
-  repeat-none : ltb (firstRepeat t) (countOf t) ≡ false → firstRepeat t ≡ countOf t
+  has-repeat : (j : ℕ) → j < countOf t → repeats t j ≡ true → ltb (firstRepeat t) (countOf t) ≡ true
   unfolding firstRepeat
-  repeat-none h = some-none (repeats t) (countOf t) h
+  has-repeat = has-some (repeats t) (countOf t)
 
   repeats-parts : (j : ℕ) → repeats t j ≡ true → (typeAt t j ≡ dname) × (some (twin t j) j ≡ true)
   unfolding repeats
   repeats-parts j h = let p = both-true (isDname (recordAt t j)) (some (twin t j) j) h in (is-type (recordAt t j) (p .0), p .1)
 
+  parts-repeats : (j : ℕ) → typeAt t j ≡ dname → some (twin t j) j ≡ true → repeats t j ≡ true
+  unfolding repeats
+  parts-repeats j d e = rw (type-is (recordAt t j) d) e
+
   twin-parts : (j i : ℕ) → twin t j i ≡ true → (typeAt t i ≡ dname) × Same (ownerAt t i) (ownerAt t j)
   unfolding twin
   twin-parts j i h = let p = both-true (isDname (recordAt t i)) (sameName (ownerAt t i) (ownerAt t j)) h in (is-type (recordAt t i) (p .0), same-name-same (ownerAt t i) (ownerAt t j) (p .1))
+
+  parts-twin : (j i : ℕ) → typeAt t i ≡ dname → Same (ownerAt t i) (ownerAt t j) → twin t j i ≡ true
+  unfolding twin
+  parts-twin j i d e = rw (type-is (recordAt t i) d) (same-same-name (ownerAt t i) (ownerAt t j) e)
 
 -- DNAMEs that do not repeat an owner
 apart : (t : List ℕ) → firstRepeat t ≡ countOf t → (i j : ℕ) → i < j → j < countOf t → typeAt t i ≡ dname → typeAt t j ≡ dname → sameName (ownerAt t i) (ownerAt t j) ≡ false
@@ -124,28 +131,16 @@ repeat-shared t = (there, back)
   where
     there : ltb (firstRepeat t) (countOf t) ≡ true → Shared t
     there h =
-        let p : firstRepeat t < countOf t = ltb-true (firstRepeat t) (countOf t) h in
-        let r = repeats-parts t (firstRepeat t) (repeat-first t p) in
-        let q : first (twin t (firstRepeat t)) (firstRepeat t) < firstRepeat t = ltb-true (first (twin t (firstRepeat t)) (firstRepeat t)) (firstRepeat t) (r .1) in
-        let w = twin-parts t (firstRepeat t) (first (twin t (firstRepeat t)) (firstRepeat t)) (first-some (twin t (firstRepeat t)) (firstRepeat t) q) in
-        record {
-          first = first (twin t (firstRepeat t)) (firstRepeat t);
-          second = firstRepeat t;
-          order = q;
-          there = p;
-          one = w .0;
-          other = r .0;
-          owner = w .1;
-        }
+        let p = repeat-has t h in
+        let r = repeats-parts t (p .0) (p .2) in
+        let q = some-has (twin t (p .0)) (p .0) (r .1) in
+        let w = twin-parts t (p .0) (q .0) (q .2) in
+        record { first = q .0; second = p .0; order = q .1; there = p .1; one = w .0; other = r .0; owner = w .1 }
 
     back : Shared t → ltb (firstRepeat t) (countOf t) ≡ true
-    back s = go (ltb (firstRepeat t) (countOf t)) refl
-      where
-        go : (b : Bool) → ltb (firstRepeat t) (countOf t) ≡ b → ltb (firstRepeat t) (countOf t) ≡ true
-        go true e = e
-        go false e =
-            let z = apart t (repeat-none t e) (s .first) (s .second) (s .order) (s .there) (s .one) (s .other) in
-            absurd (clash (same-same-name (ownerAt t (s .first)) (ownerAt t (s .second)) (s .owner)) z)
+    back s =
+        let w = parts-twin t (s .second) (s .first) (s .one) (s .owner) in
+        has-repeat t (s .second) (s .there) (parts-repeats t (s .second) (s .other) (has-some (twin t (s .second)) (s .second) (s .first) (s .order) w))
 
 -- a table in order has whole records, not too many, each of them good, and no two DNAMEs with one owner
 module _ (t : List ℕ) (o : InOrder t) where
