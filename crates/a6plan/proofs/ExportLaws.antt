@@ -3,100 +3,129 @@ use Prim.Native.Nat.{ℕ, zero, suc, _+_, _-_, _≤_, _<_}
 use mathlib.Core.Path.{_≡_, refl, ap, _∙_, sym}
 use mathlib.Core.Bool.{Bool, true, false, not}
 use mathlib.Core.List.{List, [], _∷_, _++_, append-nil, append-assoc}
-use lib.Dec.{eqb, ltb}
-use lib.ListN.{length, take, drop, set, length-append, length-take, length-drop, drop-of-length-le}
-use lib.Seq.{length-take-le, take-all, take-at, drop-at, drop-append-add, getD-at, set-at}
+use lib.Dec.{eqb}
+use lib.ListN.{length, getD, take, drop, set, length-append, length-take, length-drop, drop-of-length-le}
+use lib.Seq.{paste, paste-suc, length-take-le, take-all, take-at, drop-at, drop-append-add, getD-at, set-at}
+use native.Mathlib.Nat.{zero-add}
+use native.Mathlib.Numerals.{add-one}
 use native.Mathlib.Omega.{arith}
-use borrow.Author.Tests.{not-false, eq-eqb, ne-eqb, lt-ltb, le-ltb, eqb-true, eqb-false, ltb-true, ltb-false}
-use Rattle.octets.specs.Octets.{blank}
+use borrow.Author.Tests.{not-false, eq-eqb, ne-eqb, eqb-true, eqb-false}
+use Rattle.octets.specs.Octets.{blank, among}
 use Rattle.octets.specs.declared.Answer.{Answer}
 use Rattle.octets.specs.Answers.{orElse, answerBy, outBy}
 use Rattle.octets.proofs.AnswerLaws.{earns-zero, not-nought, refused-out, by-number}
 use Rattle.octets.proofs.OctetLaws.{length-blank}
 use Rattle.octets.proofs.BoolLaws.{clash}
+use Rattle.plan.specs.Faults.{replying}
+use Rattle.plan.specs.declared.Reply.{Reply}
 use Rattle.a6.specs.Data.{Shaped}
 use Rattle.a6.specs.declared.Value.{Value}
 use Rattle.a6.specs.Accepted.{valueNumber, roomNumber}
 use Rattle.a6.specs.Parts.{valueAt, Tells, laidOf, laidNumber}
 use Rattle.a6.specs.declared.inside.Found.{Found}
 use Rattle.a6.proofs.AcceptedLaws.{laid-number, laid-answer}
-use Rattle.a6plan.specs.Exports.{valueSize, valueOctets, misfit, exportedReadNumber, exportedWriteNumber, valueIn, exportedNumber, exportedFigures}
+use Rattle.a6plan.specs.Exports.{Figured, ofName, ofPart, ofTable, exportedNumber, exportedFigures, placedFigures, replyFigures, valueSize, valueOctets, valueIn, misfit, exportedReadNumber, exportedWriteNumber}
 use Rattle.a6plan.specs.Keeping.{clearedIf, keptFor}
 
-module _ (n k : ℕ) where
-  pub exported-two : n ≡ 2 → exportedNumber n k ≡ k
+-- the number at the interface, of an operation whose figures slice has n places
+module _ (w : Figured) (n k : ℕ) where
+  pub exported-fit : n ≡ w .wanted → exportedNumber w n k ≡ k
   unfolding exportedNumber
-  exported-two h = rw (eq-eqb n 2 h)
+  exported-fit h = rw (eq-eqb n (w .wanted) h)
 
-  module _ (h : n ≡ 2 → ⊥) where
-    pub exported-done : k ≡ 0 → exportedNumber n k ≡ 5
+  module _ (h : n ≡ w .wanted → ⊥) where
+    pub exported-early : among k (w .earlier) ≡ true → exportedNumber w n k ≡ k
     unfolding exportedNumber
-    exported-done e = rw (ne-eqb n 2 h, eq-eqb k 0 e)
+    exported-early e = rw (ne-eqb n (w .wanted) h, e)
 
-    pub exported-late : 5 < k → exportedNumber n k ≡ 5
+    pub exported-late : among k (w .earlier) ≡ false → exportedNumber w n k ≡ 5
     unfolding exportedNumber
-    exported-late e = rw (ne-eqb n 2 h, ne-eqb k 0 (λ z. omega arith), lt-ltb 5 k e)
+    exported-late e = rw (ne-eqb n (w .wanted) h, e)
 
-    pub exported-early : (k ≡ 0 → ⊥) → k ≤ 5 → exportedNumber n k ≡ k
-    unfolding exportedNumber
-    exported-early e f = rw (ne-eqb n 2 h, ne-eqb k 0 e, le-ltb 5 k f)
+-- 0 is none of the numbers that come before 5
+abbrev pub Refuses : Figured → Type 0
+Refuses w = among 0 (w .earlier) ≡ false
 
-  -- 0 comes out only where 0 went in and the figures are two
-  pub exported-zero : exportedNumber n k ≡ 0 → (n ≡ 2) × (k ≡ 0)
-  exported-zero e = go (eqb n 2) refl
+pub refuses-name : Refuses ofName
+unfolding among
+refuses-name = refl
+
+pub refuses-part : Refuses ofPart
+unfolding among
+refuses-part = refl
+
+pub refuses-table : Refuses ofTable
+unfolding among
+refuses-table = refl
+
+module _ (w : Figured) (z : Refuses w) (n k : ℕ) where
+  -- 0 comes out only where 0 went in and the figures are as many as are wanted
+  pub exported-zero : exportedNumber w n k ≡ 0 → (n ≡ w .wanted) × (k ≡ 0)
+  exported-zero e = go (eqb n (w .wanted)) refl
     where
-      other : (t : Bool) → ltb 5 k ≡ t → (n ≡ 2 → ⊥) → (k ≡ 0 → ⊥) → ⊥
-      other true f h z = omega (arith, exported-late h (ltb-true 5 k f))
-      other false f h z = z (sym (exported-early h z (ltb-false 5 k f)) ∙ e)
+      other : (t : Bool) → among k (w .earlier) ≡ t → (n ≡ w .wanted → ⊥) → ⊥
+      other true f h = clash f (ap (λ (j : ℕ). among j (w .earlier)) (sym (exported-early w n k h f) ∙ e) ∙ z)
+      other false f h = omega (arith, exported-late w n k h f)
 
-      rest : (t : Bool) → eqb k 0 ≡ t → (n ≡ 2 → ⊥) → (n ≡ 2) × (k ≡ 0)
-      rest true f h = let z : ⊥ = omega (arith, exported-done h (eqb-true k 0 f)) in absurd z
-      rest false f h = absurd (other (ltb 5 k) refl h (eqb-false k 0 f))
+      go : (t : Bool) → eqb n (w .wanted) ≡ t → (n ≡ w .wanted) × (k ≡ 0)
+      go true f = let h = eqb-true n (w .wanted) f in (h, sym (exported-fit w n k h) ∙ e)
+      go false f = absurd (other (among k (w .earlier)) refl (eqb-false n (w .wanted) f))
 
-      go : (t : Bool) → eqb n 2 ≡ t → (n ≡ 2) × (k ≡ 0)
-      go true f = let h = eqb-true n 2 f in (h, sym (exported-two h) ∙ e)
-      go false f = rest (eqb k 0) refl (eqb-false n 2 f)
-
-  -- so with other figures nothing comes out
-  pub exported-other : (n ≡ 2 → ⊥) → exportedNumber n k ≡ 0 → ⊥
-  exported-other h e = h (exported-zero e .0)
-
--- an operation's output, kept where the figures are two: by the exported number it is the result, or zeros
-pub kept-out : (n k size : ℕ) (result out end : List ℕ) → out ≡ outBy k result size → length out ≡ size → end ≡ keptFor n out → end ≡ outBy (exportedNumber n k) result size
-unfolding keptFor
-kept-out n k size result out end o l e = e ∙ go (eqb n 2) refl
-  where
-    go : (t : Bool) → eqb n 2 ≡ t → keptFor n out ≡ outBy (exportedNumber n k) result size
-    go true f = rw (keptFor, f, exported-two n k (eqb-true n 2 f)) o
-    go false f = rw (keptFor, f, l) (refused-out (exportedNumber n k) _ refl (exported-other n k (eqb-false n 2 f)) result size)
+  -- an operation's output, kept where the figures are as many as are wanted: by the exported number it is the result, or zeros
+  pub kept-out : (size : ℕ) (result out end : List ℕ) → out ≡ outBy k result size → length out ≡ size → end ≡ keptFor (w .wanted) n out → end ≡ outBy (exportedNumber w n k) result size
+  unfolding keptFor
+  kept-out size result out end o l e = e ∙ go (eqb n (w .wanted)) refl
+    where
+      go : (t : Bool) → eqb n (w .wanted) ≡ t → keptFor (w .wanted) n out ≡ outBy (exportedNumber w n k) result size
+      go true f = rw (keptFor, f, exported-fit w n k (eqb-true n (w .wanted) f)) o
+      go false f = rw (keptFor, f, l) (refused-out (exportedNumber w n k) _ refl (λ h. eqb-false n (w .wanted) f (exported-zero h .0)) result size)
 
 -- what becomes of an operation's answer and of each of its outputs, by the exported number
-module _ (n k count work : ℕ) (answer : Answer) (r : ℕ) (a : answer ≡ answerBy k count work) (e : r ≡ exportedNumber n (answer .number)) where
-  pub exported-number : r ≡ exportedNumber n k
-  exported-number = e ∙ ap (exportedNumber n) (ap (λ (v : Answer). v .number) a ∙ by-number k count work)
+module _ (w : Figured) (n k count work : ℕ) (answer : Answer) (r : ℕ) (a : answer ≡ answerBy k count work) (e : r ≡ exportedNumber w n (answer .number)) where
+  pub exported-number : r ≡ exportedNumber w n k
+  exported-number = e ∙ ap (exportedNumber w n) (ap (λ (v : Answer). v .number) a ∙ by-number k count work)
 
-  pub exported-out : (size : ℕ) (result out end : List ℕ) → out ≡ outBy k result size → length out ≡ size → end ≡ keptFor n out → end ≡ outBy r result size
-  exported-out size result out end o l h = kept-out n k size result out end o l h ∙ ap (λ (m : ℕ). outBy m result size) (sym exported-number)
+  pub exported-out : Refuses w → (size : ℕ) (result out end : List ℕ) → out ≡ outBy k result size → length out ≡ size → end ≡ keptFor (w .wanted) n out → end ≡ outBy r result size
+  exported-out z size result out end o l h = kept-out w z n k size result out end o l h ∙ ap (λ (m : ℕ). outBy m result size) (sym exported-number)
 
   pub exported-figures : (figures : List ℕ) → figures ≡ exportedFigures r answer n → figures ≡ exportedFigures r (answerBy k count work) n
   exported-figures figures h = h ∙ ap (λ (v : Answer). exportedFigures r v n) a
 
--- what `report` makes of an operation with one output: the number, the output and the figures
-pub reported : (n k count work size : ℕ) (result out end figures : List ℕ) (answer : Answer) (r : ℕ) → (answer ≡ answerBy k count work) × (out ≡ outBy k result size) → length out ≡ size
-    → (r ≡ exportedNumber n (answer .number)) × ((end ≡ keptFor n out) × (figures ≡ exportedFigures r answer n))
-    → (r ≡ exportedNumber n k) × ((end ≡ outBy r result size) × (figures ≡ exportedFigures r (answerBy k count work) n))
-reported n k count work size result out end figures answer r o l t = (
-  exported-number n k count work answer r (o .0) (t .0),
-  (exported-out n k count work answer r (o .0) (t .0) size result out end (o .1) l (t .1 .0), exported-figures n k count work answer r (o .0) (t .0) figures (t .1 .1)),
-)
+-- what `report` makes of an operation on a table with one output: the number, the output and the figures
+pub reported : (t : List ℕ) (n k count work size : ℕ) (result out end figures : List ℕ) (reply : Reply) (r : ℕ) → (reply ≡ replying t (answerBy k count work)) × (out ≡ outBy k result size) → length out ≡ size
+    → (r ≡ exportedNumber ofTable n (reply .answer .number)) × ((end ≡ keptFor 4 n out) × (figures ≡ placedFigures (replyFigures reply) n))
+    → (r ≡ exportedNumber ofTable n k) × ((end ≡ outBy r result size) × (figures ≡ placedFigures (replyFigures (replying t (answerBy k count work))) n))
+reported t n k count work size result out end figures reply r o l h =
+    let a = ap (λ (v : Reply). v .answer) (o .0) in (
+      exported-number ofTable n k count work (reply .answer) r a (h .0),
+      (exported-out ofTable n k count work (reply .answer) r a (h .0) refuses-table size result out end (o .1) l (h .1 .0), h .1 .1 ∙ ap (λ (v : Reply). placedFigures (replyFigures v) n) (o .0)),
+    )
 
-pub keeps-two : (n : ℕ) (out : List ℕ) → n ≡ 2 → out ≡ keptFor n out
-unfolding keptFor
-keeps-two n out h = rw (keptFor, eq-eqb n 2 h)
+module _ (wanted n : ℕ) (out : List ℕ) where
+  pub keeps-all : n ≡ wanted → out ≡ keptFor wanted n out
+  unfolding keptFor
+  keeps-all h = rw (keptFor, eq-eqb n wanted h)
 
-pub keeps-none : (n : ℕ) (out : List ℕ) → (n ≡ 2 → ⊥) → blank (length out) ≡ keptFor n out
-unfolding keptFor
-keeps-none n out h = rw (keptFor, ne-eqb n 2 h)
+  pub keeps-none : (n ≡ wanted → ⊥) → blank (length out) ≡ keptFor wanted n out
+  unfolding keptFor
+  keeps-none h = rw (keptFor, ne-eqb n wanted h)
+
+-- figures put where there are as many places, one after the other; else zeros
+module _ (fs : List ℕ) (n : ℕ) where
+  pub placed-all : n ≡ length fs → fs ≡ placedFigures fs n
+  unfolding placedFigures
+  placed-all h = rw (placedFigures, eq-eqb n (length fs) h)
+
+  pub placed-none : (n ≡ length fs → ⊥) → blank n ≡ placedFigures fs n
+  unfolding placedFigures
+  placed-none h = rw (placedFigures, ne-eqb n (length fs) h)
+
+module _ (fs old : List ℕ) where
+  pub put-one : (i : ℕ) → i < length old → i < length fs → set (paste old 0 fs i) i (getD fs i 0) ≡ paste old 0 fs (i + 1)
+  put-one i p q = ap (λ (k : ℕ). set (paste old 0 fs i) k (getD fs i 0)) (sym (zero-add i)) ∙ paste-suc old 0 fs i 0 (omega arith) q ∙ ap (paste old 0 fs) (sym (add-one i))
+
+  pub put-over : length old ≡ length fs → paste old 0 fs (length fs) ≡ fs
+  put-over h = rw (take-all (length fs) fs (omega arith), zero-add (length fs), drop-of-length-le old {i = length fs} (omega arith)) (append-nil fs)
 
 -- a result that fills its output
 pub full-out : (result : List ℕ) (room : ℕ) → length result ≡ room → result ≡ outBy 0 result room
@@ -219,12 +248,12 @@ module _ (m n : ℕ) where
     unwritten h o f = (rw h, (o ∙ refused-out 5 5 refl (not-nought 4) _ size, f ∙ refused-out 5 5 refl (not-nought 4) _ n))
 
     pub written : misfit m n ≡ false → {answer : Answer} {r : ℕ} → (answer ≡ answerBy k (length xs) 0) × (out ≡ outBy k xs size)
-        → (r ≡ exportedNumber n (answer .number)) × (figures ≡ exportedFigures r answer n)
+        → (r ≡ exportedNumber ofPart n (answer .number)) × (figures ≡ exportedFigures r answer n)
         → (r ≡ exportedWriteNumber m n k) × ((out ≡ outBy r xs size) × (figures ≡ exportedFigures r (answerBy k (length xs) 0) n))
     unfolding exportedWriteNumber
     written h {answer} {r} o f =
-        let e : r ≡ k = exported-number n k (length xs) 0 answer r (o .0) (f .0) ∙ exported-two n k (fits h .1) in
-        (e ∙ rw h, (o .1 ∙ ap (λ (j : ℕ). outBy j xs size) (sym e), exported-figures n k (length xs) 0 answer r (o .0) (f .0) figures (f .1)))
+        let e : r ≡ k = exported-number ofPart n k (length xs) 0 answer r (o .0) (f .0) ∙ exported-fit ofPart n k (fits h .1) in
+        (e ∙ rw h, (o .1 ∙ ap (λ (j : ℕ). outBy j xs size) (sym e), exported-figures ofPart n k (length xs) 0 answer r (o .0) (f .0) figures (f .1)))
 
 pub cleared-if : (b : Bool) (out : List ℕ) → b ≡ true → clearedIf b out ≡ blank (length out)
 unfolding clearedIf

@@ -10,7 +10,7 @@ use Rattle.octets.specs.Octets.{blank}
 unfoldable pub clearedIf : Bool → List ℕ → List ℕ
 clearedIf b out = elim b [ true ↦ blank (length out) | false ↦ out ]
 
--- an output as the operation left it where the figures, n of them, are two; else zeros
-unfoldable pub keptFor : ℕ → List ℕ → List ℕ
+-- an output as the operation left it where the figures, n of them, are as many as are wanted; else zeros
+unfoldable pub keptFor : ℕ → ℕ → List ℕ → List ℕ
 unfolding clearedIf
-keptFor n out = clearedIf (not (eqb n 2)) out
+keptFor wanted n out = clearedIf (not (eqb n wanted)) out

@@ -1,9 +1,9 @@
 // The C interface: each function takes slices and numbers, asks nothing of its caller, and returns the number of 01 (What comes back).
 ghost use mathlib.Core.Path.{_≡_};
-ghost use mathlib.Core.Bool.{true};
+ghost use mathlib.Core.Bool.{true, false};
 ghost use Prim.Native.Nat.{_≤_};
 ghost use lib.ListN.{length};
-ghost use Rattle.octets.specs.Octets.{blank, flat};
+ghost use Rattle.octets.specs.Octets.{blank, flat, among};
 ghost use Rattle.octets.specs.Answers.{answerBy, outBy};
 ghost use Rattle.names.specs.Standard.{standardOf};
 ghost use Rattle.names.specs.Answers.{standardNumber, standardAnswer};
@@ -13,6 +13,7 @@ ghost use Rattle.a6.specs.Parts.{valueAt, Sound, laidOf, laidNumber};
 ghost use Rattle.draft.specs.Read.{draftNumber, draftValue};
 ghost use Rattle.draft.specs.Write.{draftData, draftWriteNumber, draftAnswer};
 ghost use Rattle.plan.specs.Check.{checkOf};
+ghost use Rattle.plan.specs.Faults.{faultIn, replying};
 ghost use Rattle.plan.specs.Part.{ownerPart};
 ghost use Rattle.plan.specs.Graph.{graphOf};
 ghost use Rattle.search.specs.Answers.{outputOf, livesOf};
@@ -20,7 +21,7 @@ ghost use Rattle.forward.specs.Lookup.{lookupNumber, lookupAnswer};
 ghost use Rattle.reverse.specs.Answers.{endOf, endNumber, endName, reverseAnswer};
 ghost use Rattle.collapse.specs.Fold.{foldOf};
 ghost use Rattle.collapse.specs.Collapse.{numberOf, collapseAnswer};
-ghost use Rattle.a6plan.specs.Exports.{partAnswer, valueSize, valueOctets, valueIn, misfit, exportedReadNumber, exportedWriteNumber, exportedNumber, exportedFigures};
+ghost use Rattle.a6plan.specs.Exports.{ofName, ofPart, ofCheck, ofTable, exportedNumber, exportedFigures, placedFigures, faultFigures, replyFigures, partAnswer, valueSize, valueOctets, valueIn, misfit, exportedReadNumber, exportedWriteNumber};
 ghost use Rattle.a6plan.specs.Keeping.{clearedIf, keptFor};
 
 // The octets of an A6 value at this interface.
@@ -29,12 +30,13 @@ const VALUE: usize = 273;
 // The standard form of a name in a 255-octet output; figures: its length and 0.
 #[no_mangle]
 pub extern "C" fn a6plan_standard(name: &[u8], out: &mut [u8], figures: &mut [u32]) -> u32
-    ensures number { λ r. ⌜ r ≡ exportedNumber (length (now (figures .entry))) (standardNumber (now (name .entry)) (length (now (out .entry)))) ⌝ }
+    ensures number { λ r. ⌜ r ≡ exportedNumber ofName (length (now (figures .entry))) (standardNumber (now (name .entry)) (length (now (out .entry)))) ⌝ }
     ensures output { λ r. ⌜ now (out .exit) ≡ outBy r (standardOf (now (name .entry))) (length (now (out .entry))) ⌝ }
     ensures figured { λ r. ⌜ now (figures .exit) ≡ exportedFigures r (standardAnswer (now (name .entry)) (length (now (out .entry)))) (length (now (figures .entry))) ⌝ }
 {
     let answer = names::standard_form(name, out);
-    report(answer, out, figures)
+    keep(2, figures.len(), out);
+    figure(b"\x04", answer, figures)
 }
 
 // The value that A6 data stands for, in 273 octets; all zero on a refusal.
@@ -75,20 +77,22 @@ pub extern "C" fn a6plan_write_1998(value: &[u8], out: &mut [u8], figures: &mut 
     write_from(value, 16, out, figures)
 }
 
-// Whether a table is in order: 0, or 1, 2 or 3.
+// Whether a table is in order: 0, or 1, 2 or 3; figures: for 2 and 3 the index of the record and the number of its field, else 0 and 0.
 #[no_mangle]
-pub extern "C" fn a6plan_check(table: &[u8]) -> u32
-    ensures { λ r. ⌜ r ≡ checkOf (now (table .entry)) ⌝ }
+pub extern "C" fn a6plan_check(table: &[u8], figures: &mut [u32]) -> u32
+    ensures number { λ r. ⌜ r ≡ exportedNumber ofCheck (length (now (figures .entry))) (checkOf (now (table .entry))) ⌝ }
+    ensures figured { λ _. ⌜ now (figures .exit) ≡ placedFigures (faultFigures (faultIn (now (table .entry)))) (length (now (figures .entry))) ⌝ }
 {
-    let answer = plan::check(table);
-    let number = answer.number;
-    number as u32
+    let reply = plan::check(table);
+    let place = [reply.fault.index, reply.fault.field as u32];
+    put_figures(&place, figures);
+    exported(2, b"\x01\x02\x03", figures.len(), reply.answer.number)
 }
 
 // The part of the table that the owner of a record takes; figures: where it starts and its length, both 0 for the empty part.
 #[no_mangle]
 pub extern "C" fn a6plan_owner(table: &[u8], index: usize, figures: &mut [u32]) -> u32
-    ensures number { λ r. ⌜ r ≡ exportedNumber (length (now (figures .entry))) 0 ⌝ }
+    ensures number { λ r. ⌜ r ≡ exportedNumber ofPart (length (now (figures .entry))) 0 ⌝ }
     ensures figured { λ r. ⌜ now (figures .exit) ≡ exportedFigures r (partAnswer (ownerPart (now (table .entry)) index)) (length (now (figures .entry))) ⌝ }
 {
     let part = plan::owner(table, index);
@@ -99,11 +103,11 @@ pub extern "C" fn a6plan_owner(table: &[u8], index: usize, figures: &mut [u32]) 
         count: offset as u32,
         work: length as u32,
     };
-    figure(answer, figures)
+    figure(b"", answer, figures)
 }
 
 // The addresses of a name in ascending order, sixteen octets each, then zeros; at the place of each, in the list of TTLs, how long it lives,
-// then zeros; figures: their count and the work.
+// then zeros; figures: their count, the work, and for 2 and 3 the index of the record and its field.
 #[no_mangle]
 pub extern "C" fn a6plan_lookup(
     table: &[u8],
@@ -113,17 +117,17 @@ pub extern "C" fn a6plan_lookup(
     ttls: &mut [u32],
     figures: &mut [u32],
 ) -> u32
-    ensures number { λ r. ⌜ r ≡ exportedNumber (length (now (figures .entry))) (lookupNumber (now (table .entry)) (now (name .entry)) limit (length (now (out .entry))) (length (now (ttls .entry)))) ⌝ }
+    ensures number { λ r. ⌜ r ≡ exportedNumber ofTable (length (now (figures .entry))) (lookupNumber (now (table .entry)) (now (name .entry)) limit (length (now (out .entry))) (length (now (ttls .entry)))) ⌝ }
     ensures output { λ r. ⌜ now (out .exit) ≡ outputOf (graphOf (now (table .entry))) (now (name .entry)) r (length (now (out .entry))) ⌝ }
     ensures lifetimes { λ r. ⌜ now (ttls .exit) ≡ livesOf (graphOf (now (table .entry))) (now (name .entry)) r (length (now (ttls .entry))) ⌝ }
-    ensures figured { λ r. ⌜ now (figures .exit) ≡ exportedFigures r (lookupAnswer (now (table .entry)) (now (name .entry)) limit (length (now (out .entry))) (length (now (ttls .entry)))) (length (now (figures .entry))) ⌝ }
+    ensures figured { λ _. ⌜ now (figures .exit) ≡ placedFigures (replyFigures (replying (now (table .entry)) (lookupAnswer (now (table .entry)) (now (name .entry)) limit (length (now (out .entry))) (length (now (ttls .entry)))))) (length (now (figures .entry))) ⌝ }
 {
-    let answer = forward::lookup(table, name, limit, out, ttls);
-    keep_numbers(figures.len(), ttls);
-    report(answer, out, figures)
+    let reply = forward::lookup(table, name, limit, out, ttls);
+    keep_numbers(4, figures.len(), ttls);
+    report(reply, out, figures)
 }
 
-// The name where the rewriting of an address's reverse name ends, then zeros; figures: its length and the number of rewrites.
+// The name where the rewriting of an address's reverse name ends, then zeros; figures: its length, the number of rewrites, and for 2 and 3 the index of the record and its field.
 #[no_mangle]
 pub extern "C" fn a6plan_reverse(
     table: &[u8],
@@ -132,15 +136,15 @@ pub extern "C" fn a6plan_reverse(
     out: &mut [u8],
     figures: &mut [u32],
 ) -> u32
-    ensures number { λ r. ⌜ r ≡ exportedNumber (length (now (figures .entry))) (endNumber (endOf (now (table .entry)) (now (address .entry)) limit (length (now (out .entry))))) ⌝ }
+    ensures number { λ r. ⌜ r ≡ exportedNumber ofTable (length (now (figures .entry))) (endNumber (endOf (now (table .entry)) (now (address .entry)) limit (length (now (out .entry))))) ⌝ }
     ensures output { λ r. ⌜ now (out .exit) ≡ outBy r (endName (endOf (now (table .entry)) (now (address .entry)) limit (length (now (out .entry))))) (length (now (out .entry))) ⌝ }
-    ensures figured { λ r. ⌜ now (figures .exit) ≡ exportedFigures r (reverseAnswer (now (table .entry)) (now (address .entry)) limit (length (now (out .entry)))) (length (now (figures .entry))) ⌝ }
+    ensures figured { λ _. ⌜ now (figures .exit) ≡ placedFigures (replyFigures (replying (now (table .entry)) (reverseAnswer (now (table .entry)) (now (address .entry)) limit (length (now (out .entry)))))) (length (now (figures .entry))) ⌝ }
 {
-    let answer = reverse::lookup(table, address, limit, out);
-    report(answer, out, figures)
+    let reply = reverse::lookup(table, address, limit, out);
+    report(reply, out, figures)
 }
 
-// The table with a name folded, then zeros; figures: how many records, and 0.
+// The table with a name folded, then zeros; figures: how many records, 0, and for 2 and 3 the index of the record at fault and its field.
 #[no_mangle]
 pub extern "C" fn a6plan_collapse(
     table: &[u8],
@@ -148,12 +152,12 @@ pub extern "C" fn a6plan_collapse(
     out: &mut [u8],
     figures: &mut [u32],
 ) -> u32
-    ensures number { λ r. ⌜ r ≡ exportedNumber (length (now (figures .entry))) (numberOf (now (table .entry)) (now (name .entry)) (length (now (out .entry)))) ⌝ }
+    ensures number { λ r. ⌜ r ≡ exportedNumber ofTable (length (now (figures .entry))) (numberOf (now (table .entry)) (now (name .entry)) (length (now (out .entry)))) ⌝ }
     ensures output { λ r. ⌜ now (out .exit) ≡ outBy r (flat (foldOf (now (name .entry)) (now (table .entry)))) (length (now (out .entry))) ⌝ }
-    ensures figured { λ r. ⌜ now (figures .exit) ≡ exportedFigures r (collapseAnswer (now (table .entry)) (now (name .entry)) (length (now (out .entry)))) (length (now (figures .entry))) ⌝ }
+    ensures figured { λ _. ⌜ now (figures .exit) ≡ placedFigures (replyFigures (replying (now (table .entry)) (collapseAnswer (now (table .entry)) (now (name .entry)) (length (now (out .entry)))))) (length (now (figures .entry))) ⌝ }
 {
-    let answer = collapse::collapse(table, name, out);
-    report(answer, out, figures)
+    let reply = collapse::collapse(table, name, out);
+    report(reply, out, figures)
 }
 
 // The number of what a reader's tests say at this interface, and the value of 273 octets where it is 0, else zeros.
@@ -227,47 +231,70 @@ fn write_from(value: &[u8], before: usize, out: &mut [u8], figures: &mut [u32]) 
     }
     let size = value[17];
     let answer = a6::inside::lay(value[0], &value[1..17], &value[18..273], size, before, out);
-    figure(answer, figures)
+    figure(b"", answer, figures)
 }
 
-// The figures of an answer and its number at this interface; the output is zeros where the figures are not two, and stays else: an operation
-// that refuses has cleared it.
-fn report(answer: octets::Answer, out: &mut [u8], figures: &mut [u32]) -> u32
-    ensures number { λ r. ⌜ r ≡ exportedNumber (length (now (figures .entry))) (answer .number) ⌝ }
-    ensures output { λ _. ⌜ now (out .exit) ≡ keptFor (length (now (figures .entry))) (now (out .entry)) ⌝ }
-    ensures figured { λ r. ⌜ now (figures .exit) ≡ exportedFigures r answer (length (now (figures .entry))) ⌝ }
+// The number and the four figures of a reply at this interface; the output is zeros where the figures are not four, and stays else: an operation that
+// refuses has cleared it.
+fn report(reply: plan::Reply, out: &mut [u8], figures: &mut [u32]) -> u32
+    ensures number { λ r. ⌜ r ≡ exportedNumber ofTable (length (now (figures .entry))) (reply .answer .number) ⌝ }
+    ensures output { λ _. ⌜ now (out .exit) ≡ keptFor 4 (length (now (figures .entry))) (now (out .entry)) ⌝ }
+    ensures figured { λ _. ⌜ now (figures .exit) ≡ placedFigures (replyFigures reply) (length (now (figures .entry))) ⌝ }
 {
-    keep(figures.len(), out);
-    figure(answer, figures)
+    keep(4, figures.len(), out);
+    let all = [
+        reply.answer.count,
+        reply.answer.work,
+        reply.fault.index,
+        reply.fault.field as u32,
+    ];
+    put_figures(&all, figures);
+    exported(4, b"\x01\x02\x03\x04", figures.len(), reply.answer.number)
 }
 
-// Zeros where the figures, n of them, are not two.
-fn keep(n: usize, out: &mut [u8])
-    ensures { λ _. ⌜ now (out .exit) ≡ keptFor n (now (out .entry)) ⌝ }
+// Zeros where the figures, n of them, are not as many as are wanted.
+fn keep(wanted: usize, n: usize, out: &mut [u8])
+    ensures { λ _. ⌜ now (out .exit) ≡ keptFor wanted n (now (out .entry)) ⌝ }
 {
-    if n == 2 {
+    if n == wanted {
         return;
     }
     octets::clear(out);
 }
 
 // The same for a list of numbers.
-fn keep_numbers(n: usize, list: &mut [u32])
-    ensures { λ _. ⌜ now (list .exit) ≡ keptFor n (now (list .entry)) ⌝ }
+fn keep_numbers(wanted: usize, n: usize, list: &mut [u32])
+    ensures { λ _. ⌜ now (list .exit) ≡ keptFor wanted n (now (list .entry)) ⌝ }
 {
-    if n == 2 {
+    if n == wanted {
         return;
     }
     octets::numbers::clear(list);
 }
 
-// The figures of an answer, and its number at this interface.
-fn figure(answer: octets::Answer, figures: &mut [u32]) -> u32
-    ensures number { λ r. ⌜ r ≡ exportedNumber (length (now (figures .entry))) (answer .number) ⌝ }
+// Figures put where there are as many places; else zeros.
+fn put_figures(all: &[u32], figures: &mut [u32])
+    ensures { λ _. ⌜ now (figures .exit) ≡ placedFigures (now (all .entry)) (length (now (figures .entry))) ⌝ }
+{
+    let n = all.len();
+    if figures.len() != n {
+        return octets::numbers::clear(figures);
+    }
+    let mut i: usize = 0;
+    while i < n {
+        figures[i] = all[i];
+        i += 1;
+    }
+}
+
+// The two figures of an answer, and its number at this interface; `earlier` are the numbers that come before 5, 0 not among them.
+fn figure(earlier: &[u8], answer: octets::Answer, figures: &mut [u32]) -> u32
+    requires { ⌜ among 0 (now earlier) ≡ false ⌝ }
+    ensures number { λ r. ⌜ r ≡ exportedNumber (record { wanted = 2; earlier = now (earlier .entry) }) (length (now (figures .entry))) (answer .number) ⌝ }
     ensures figured { λ r. ⌜ now (figures .exit) ≡ exportedFigures r answer (length (now (figures .entry))) ⌝ }
 {
     octets::numbers::clear(figures);
-    let number = exported(figures.len(), answer.number);
+    let number = exported(2, earlier, figures.len(), answer.number);
     if number != 0 {
         return number;
     }
@@ -276,18 +303,30 @@ fn figure(answer: octets::Answer, figures: &mut [u32]) -> u32
     0
 }
 
-// The number of an operation whose figures slice has n places.
-fn exported(n: usize, number: u8) -> u32
-    ensures { λ r. ⌜ r ≡ exportedNumber n number ⌝ }
+// The number of an operation that wants so many figures and has n places for them; `earlier` are the numbers that come before 5.
+fn exported(wanted: usize, earlier: &[u8], n: usize, number: u8) -> u32
+    ensures { λ r. ⌜ r ≡ exportedNumber (record { wanted = wanted; earlier = now (earlier .entry) }) n number ⌝ }
 {
-    if n == 2 {
+    if n == wanted {
         return number as u32;
     }
-    if number == 0 {
-        return 5;
+    if is_among(number, earlier) {
+        return number as u32;
     }
-    if 5 < number {
-        return 5;
+    5
+}
+
+// Whether a number stands in a list.
+fn is_among(number: u8, list: &[u8]) -> bool
+    ensures { λ r. ⌜ r ≡ among number (now (list .entry)) ⌝ }
+{
+    let n = list.len();
+    let mut i: usize = 0;
+    while i < n {
+        if list[i] == number {
+            return true;
+        }
+        i += 1;
     }
-    number as u32
+    false
 }

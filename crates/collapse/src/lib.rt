@@ -10,6 +10,7 @@ ghost use Rattle.address.specs.Address.{joinOf};
 ghost use Rattle.chains.specs.Lists.{pick, upTo};
 ghost use Rattle.plan.specs.Layout.{recordSize, maxRecords, slotSize, nameIn, prefixOf, prefixAt, addressAt, ttlAt, countOf, recordAt};
 ghost use Rattle.plan.specs.Check.{InOrder};
+ghost use Rattle.plan.specs.Faults.{replying};
 ghost use Rattle.collapse.specs.Fold.{leads, unfinished, continues, refers, joinedOf, madeOf, placeOf};
 ghost use Rattle.collapse.specs.Collapse.{collapseAnswer, collapseOut};
 ghost use Rattle.collapse.specs.Running.{Fit, spanOf, bucketOf, Linked, storedOne, stored, Put};
@@ -24,23 +25,33 @@ pub struct Span {
 }
 
 // The table with a name folded: what each unfinished record of it makes with the records of its target stands in its place. Zeros after it; or a
-// refusal (01, What comes back).
-pub fn collapse(table: &[u8], name: &[u8], out: &mut [u8]) -> octets::Answer
-    ensures answer { λ r. ⌜ r ≡ collapseAnswer (now (table .entry)) (now (name .entry)) (length (now (out .entry))) ⌝ }
+// refusal (01, What comes back), beside 2 and 3 with the place of the table's fault (T-04).
+pub fn collapse(table: &[u8], name: &[u8], out: &mut [u8]) -> plan::Reply
+    ensures reply { λ r. ⌜ r ≡ replying (now (table .entry)) (collapseAnswer (now (table .entry)) (now (name .entry)) (length (now (out .entry)))) ⌝ }
     ensures output { λ _. ⌜ now (out .exit) ≡ collapseOut (now (table .entry)) (now (name .entry)) (length (now (out .entry))) ⌝ }
 {
     let entered = plan::inside::enter(table, name);
     let number = entered.number;
+    let fault = entered.fault;
     let held = entered.name;
     let standard = held.octets;
     let n = octets::wide(held.length);
     if number != 0 {
-        return refuse(number, out);
+        return plan::Reply {
+            answer: refuse(number, out),
+            fault,
+        };
     }
     if out.len() % plan::inside::RECORD != 0 {
-        return refuse(5, out);
+        return plan::Reply {
+            answer: refuse(5, out),
+            fault,
+        };
     }
-    fold(table, &standard[..n], out)
+    plan::Reply {
+        answer: fold(table, &standard[..n], out),
+        fault,
+    }
 }
 
 // A refusal by its number, with zeros.

@@ -162,8 +162,9 @@ fn collapse(line: &[u8], table: &mut [u8], size: usize) -> usize
 {
     let slot = text::slot(line, 1);
     let mut made = [0u8; TABLE];
-    let answer = collapse::collapse(&table[0..size], plan::inside::name_in(&slot), &mut made);
-    print::answered(line, answer, b": records ", b"");
+    let reply = collapse::collapse(&table[0..size], plan::inside::name_in(&slot), &mut made);
+    let answer = reply.answer;
+    print::answered(line, reply, b": records ", b"");
     print::line(b"");
     if answer.number != 0 {
         return size;
@@ -195,23 +196,23 @@ fn lookup(line: &[u8], plan: &[u8]) {
     let slot = text::slot(line, 1);
     let mut out = [0u8; 16 * ROOM];
     let mut ttls = [0u32; ROOM];
-    let answer = forward::lookup(
+    let reply = forward::lookup(
         plan,
         plan::inside::name_in(&slot),
         WORK,
         &mut out,
         &mut ttls,
     );
-    print::answered(line, answer, b": addresses ", b", work ");
-    print::addresses(&out, answer.count as usize * 16);
+    print::answered(line, reply, b": addresses ", b", work ");
+    print::addresses(&out, reply.answer.count as usize * 16);
     print::line(b"");
 }
 
 fn reverse(line: &[u8], plan: &[u8]) {
     let address = text::address(line, 1);
     let mut out = [0u8; 255];
-    let answer = reverse::lookup(plan, &address, REWRITES, &mut out);
-    print::answered(line, answer, b"", b": rewrites ");
+    let reply = reverse::lookup(plan, &address, REWRITES, &mut out);
+    print::answered(line, reply, b"", b": rewrites ");
     print::name(&out);
     print::line(b"");
 }

@@ -21,14 +21,26 @@ pub fn compared(same: bool) {
     }
 }
 
-// A question and the figures of its answer, or that it is refused. Its line is not ended.
-pub fn answered(words: &[u8], answer: octets::Answer, first: &[u8], second: &[u8]) {
+// A question and the figures of its answer, or that it is refused, and for 2 and 3 which record and which field. Its line is not ended.
+pub fn answered(words: &[u8], reply: plan::Reply, first: &[u8], second: &[u8]) {
+    let answer = reply.answer;
+    let number = answer.number;
     text(words);
-    if answer.number != 0 {
-        return figure(b": refused ", answer.number as u32);
+    if number == 2 || number == 3 {
+        figure(b": refused ", number as u32);
+        return place(reply.fault);
+    }
+    if number != 0 {
+        return figure(b": refused ", number as u32);
     }
     figure(first, answer.count);
     figure(second, answer.work);
+}
+
+// The place of a table's fault.
+fn place(fault: plan::Fault) {
+    figure(b", record ", fault.index);
+    figure(b", field ", fault.field as u32);
 }
 
 // A figure after what it is; nothing where that is not said.

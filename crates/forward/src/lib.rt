@@ -6,6 +6,7 @@ ghost use lib.ListN.{length};
 ghost use Rattle.octets.specs.Octets.{blank};
 ghost use Rattle.names.specs.Standard.{inStandardForm};
 ghost use Rattle.plan.specs.Check.{InOrder};
+ghost use Rattle.plan.specs.Faults.{replying};
 ghost use Rattle.plan.specs.Graph.{graphOf};
 ghost use Rattle.search.specs.Answers.{numberOf, answerOf, outputOf, livesOf};
 ghost use Rattle.forward.specs.Lookup.{misfit, lookupAnswer, lookupOut, lookupTtls};
@@ -13,15 +14,15 @@ ghost use Rattle.forward.specs.Lookup.{misfit, lookupAnswer, lookupOut, 
 // The addresses of a name in ascending order without repeats, sixteen octets each, then zeros; their count and the work. At the place of each,
 // in the other list, the least TTL of the records that it comes from, then zeros.
 // 1, 2 or 3 for the table, 4 for a malformed name, 5 for an output that is no multiple of 16 octets or a list of TTLs of another length than
-// the room for addresses, 6 for more work than the limit, 7 for more addresses than room.
+// the room for addresses, 6 for more work than the limit, 7 for more addresses than room. Beside 2 and 3 the place of the table's fault (T-04).
 pub fn lookup(
     table: &[u8],
     name: &[u8],
     limit: u32,
     out: &mut [u8],
     ttls: &mut [u32],
-) -> octets::Answer
-    ensures answer { λ r. ⌜ r ≡ lookupAnswer (now (table .entry)) (now (name .entry)) limit (length (now (out .entry))) (length (now (ttls .entry))) ⌝ }
+) -> plan::Reply
+    ensures reply { λ r. ⌜ r ≡ replying (now (table .entry)) (lookupAnswer (now (table .entry)) (now (name .entry)) limit (length (now (out .entry))) (length (now (ttls .entry)))) ⌝ }
     ensures output { λ _. ⌜ now (out .exit) ≡ lookupOut (now (table .entry)) (now (name .entry)) limit (length (now (out .entry))) (length (now (ttls .entry))) ⌝ }
     ensures lifetimes { λ _. ⌜ now (ttls .exit) ≡ lookupTtls (now (table .entry)) (now (name .entry)) limit (length (now (out .entry))) (length (now (ttls .entry))) ⌝ }
 {
@@ -29,16 +30,26 @@ pub fn lookup(
     octets::numbers::clear(ttls);
     let entered = plan::inside::enter(table, name);
     let number = entered.number;
+    let fault = entered.fault;
     let held = entered.name;
     let octets = held.octets;
     let length = octets::wide(held.length);
     if number != 0 {
-        return octets::refused(number);
+        return plan::Reply {
+            answer: octets::refused(number),
+            fault,
+        };
     }
     if is_misfit(out.len(), ttls.len()) {
-        return octets::refused(5);
+        return plan::Reply {
+            answer: octets::refused(5),
+            fault,
+        };
     }
-    look(table, &octets[..length], limit, out, ttls)
+    plan::Reply {
+        answer: look(table, &octets[..length], limit, out, ttls),
+        fault,
+    }
 }
 
 // Whether an output of `size` octets is no whole number of addresses, or a list of `room` places has another length than it has room for.

@@ -1,5 +1,6 @@
 // Looks a name up in a plan on standard input: a name slot of 256 octets, then up to 120 records. Prints each address as a line of 32 hex
-// digits, then `done`, the count and the work; a refusal prints only `refused` and its number (01, program lookup).
+// digits, then `done`, the count and the work; a refusal prints only `refused` and its number (01, program lookup),
+// and for 2 and 3 the index of the record and the number of its field (T-04).
 use libc::STDIN_FILENO;
 use libc::STDOUT_FILENO;
 
@@ -42,8 +43,13 @@ fn answer(input: &[u8]) {
 fn look(name: &[u8], table: &[u8]) {
     let mut out = [0u8; 16 * ROOM];
     let mut ttls = [0u32; ROOM];
-    let found = forward::lookup(table, name, LIMIT, &mut out, &mut ttls);
+    let reply = forward::lookup(table, name, LIMIT, &mut out, &mut ttls);
+    let found = reply.answer;
     let number = found.number;
+    if number == 2 || number == 3 {
+        write_fault(number, reply.fault);
+        return;
+    }
     if number != 0 {
         write_refused(number);
         return;
@@ -89,6 +95,17 @@ fn newline() {
 fn write_refused(number: u8) {
     io::write_all(STDOUT_FILENO, b"refused ");
     io::print_decimal(STDOUT_FILENO, number as u64);
+    newline();
+}
+
+// The same with the place of the table's fault.
+fn write_fault(number: u8, fault: plan::Fault) {
+    io::write_all(STDOUT_FILENO, b"refused ");
+    io::print_decimal(STDOUT_FILENO, number as u64);
+    io::write_all(STDOUT_FILENO, b" ");
+    io::print_decimal(STDOUT_FILENO, fault.index as u64);
+    io::write_all(STDOUT_FILENO, b" ");
+    io::print_decimal(STDOUT_FILENO, fault.field as u64);
     newline();
 }
 

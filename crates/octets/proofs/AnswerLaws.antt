@@ -1,6 +1,6 @@
 -- Laws of what the number decides: the tests in their order, the answer, and every lent output.
 use Prim.Native.Nat.{ℕ, zero, suc, _-_, _≤_}
-use mathlib.Core.Path.{_≡_, refl, _∙_}
+use mathlib.Core.Path.{_≡_, refl, sym, _∙_}
 use mathlib.Core.Bool.{Bool, true, false}
 use mathlib.Core.List.{List, _++_}
 use lib.ListN.{length, length-append}
@@ -25,6 +25,28 @@ else-kept (suc k) later h = refl
 
 pub else-later : (k later : ℕ) → k ≡ 0 → orElse k later ≡ later
 else-later k later e = rw e
+
+pub else-else : (k j later : ℕ) → orElse (orElse k j) later ≡ orElse k (orElse j later)
+else-else zero j later = refl
+else-else (suc k) j later = refl
+
+-- a number that neither the test nor what is later earns is not earned
+pub earns-not : (m : ℕ) (b : Bool) (n later : ℕ) → (n ≡ m → ⊥) → (later ≡ m → ⊥) → earns b n later ≡ m → ⊥
+earns-not m true n later h k = h
+earns-not m false n later h k = k
+
+pub else-not : (m k later : ℕ) → (k ≡ m → ⊥) → (later ≡ m → ⊥) → orElse k later ≡ m → ⊥
+else-not m zero later h g = g
+else-not m (suc k) later h g = h
+
+-- a number that is not 0 and that nothing later earns comes from what was earned before, and goes through
+pub else-from : (m k later : ℕ) → (m ≡ 0 → ⊥) → (later ≡ m → ⊥) → orElse k later ≡ m → k ≡ m
+else-from m zero later h g e = absurd (g e)
+else-from m (suc k) later h g e = e
+
+pub else-to : (m k later : ℕ) → (m ≡ 0 → ⊥) → k ≡ m → orElse k later ≡ m
+else-to m zero later h e = absurd (h (sym e))
+else-to m (suc k) later h e = e
 
 -- a number that is written as such is not 0
 pub not-nought : (k : ℕ) → suc k ≡ 0 → ⊥

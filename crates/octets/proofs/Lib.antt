@@ -3,6 +3,7 @@ pub mod SameLaws
 pub mod ZeroLaws
 pub mod SmallLaws
 pub mod FlatLaws
+pub mod AmongLaws
 pub mod NumberLaws
 pub mod BoolLaws
 pub mod AnswerLaws

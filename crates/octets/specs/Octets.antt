@@ -1,6 +1,6 @@
 -- Lists of octets: zeros, and when two lists are the same.
 use Prim.Native.Nat.{ℕ, _<_}
-use mathlib.Core.Bool.{Bool, true, false}
+use mathlib.Core.Bool.{Bool, true, false, _||_}
 use mathlib.Core.List.{List, [], _∷_, _++_}
 use lib.Dec.{eqb}
 use lib.ListN.{getD, replicate}
@@ -23,6 +23,11 @@ sameBy f (x ∷ xs) (y ∷ ys) = elim (f x y) [ true ↦ sameBy f xs ys | false 
 -- the same octets
 abbrev pub same : List ℕ → List ℕ → Bool
 same = sameBy eqb
+
+-- a number stands in a list
+unfoldable pub among : ℕ → List ℕ → Bool
+among m [] = false
+among m (x ∷ xs) = eqb x m || among m xs
 
 -- lists of octets, one after the other
 unfoldable pub flat : List (List ℕ) → List ℕ

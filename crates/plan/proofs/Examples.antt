@@ -8,6 +8,8 @@ use Rattle.octets.specs.Octets.{blank, flat}
 use Rattle.names.proofs.Samples.{ha, pa, HA, PA}
 use Rattle.plan.specs.Layout.{recordSize, slotSize, addressSize, ttlPlace, a6, dname, ttlOf, slotOf, recordOf}
 use Rattle.plan.specs.Check.{faultOf, checkOf}
+use Rattle.plan.specs.Faults.{faultIn}
+use Rattle.plan.specs.declared.Fault.{Fault}
 use Rattle.plan.specs.Marks.{markOf, alikeOf}
 use Rattle.plan.specs.Graph.{ownsA6}
 use Rattle.plan.specs.Part.{ownerPart}
@@ -69,19 +71,19 @@ alias owner target = made dname 0 zeros (slotOf owner) (slotOf target)
 -- no fault
 faults-none : map faultOf (
     h64 ∷ p0 ∷ alias ha pa ∷ alias root root ∷ made a6 128 zeros (slotOf ha) (slotOf root) ∷ [])
-    ≡ 0 ∷ 0 ∷ 0 ∷ 0 ∷ 0 ∷ []
+    ≡ 7 ∷ 7 ∷ 7 ∷ 7 ∷ 7 ∷ []
 unfolding tables-compute h64 p0 alias made root zeros
 faults-none = refl
 
-faults-type : map faultOf (made 40 0 five (slotOf pa) none ∷ made 12 0 zeros (slotOf pa) (slotOf ha) ∷ set h64 0 1 ∷ blank recordSize ∷ []) ≡ 1 ∷ 1 ∷ 1 ∷ 1 ∷ []
+faults-type : map faultOf (made 40 0 five (slotOf pa) none ∷ made 12 0 zeros (slotOf pa) (slotOf ha) ∷ set h64 0 1 ∷ blank recordSize ∷ []) ≡ 0 ∷ 0 ∷ 0 ∷ 0 ∷ []
 unfolding tables-compute h64 made five zeros none
 faults-type = refl
 
-faults-prefix : map faultOf (made a6 129 zeros (slotOf ha) (slotOf pa) ∷ made dname 1 zeros (slotOf ha) (slotOf pa) ∷ []) ≡ 2 ∷ 2 ∷ []
+faults-prefix : map faultOf (made a6 129 zeros (slotOf ha) (slotOf pa) ∷ made dname 1 zeros (slotOf ha) (slotOf pa) ∷ []) ≡ 1 ∷ 1 ∷ []
 unfolding tables-compute made zeros
 faults-prefix = refl
 
-faults-zero : map faultOf (set h64 3 1 ∷ set (alias ha pa) 3 128 ∷ []) ≡ 3 ∷ 3 ∷ []
+faults-zero : map faultOf (set h64 3 1 ∷ set (alias ha pa) 3 128 ∷ []) ≡ 2 ∷ 2 ∷ []
 unfolding tables-compute h64 alias
 faults-zero = refl
 
@@ -89,14 +91,14 @@ faults-zero = refl
 faults-address : map faultOf (
     made a6 128 seven (slotOf ha) (slotOf pa) ∷ made a6 126 seven (slotOf ha) (slotOf pa) ∷ made a6 125 seven (slotOf ha) (slotOf pa)
     ∷ made a6 3 five (slotOf ha) (slotOf pa) ∷ made a6 2 five (slotOf ha) (slotOf pa) ∷ made dname 0 seven (slotOf ha) (slotOf pa) ∷ [])
-    ≡ 4 ∷ 4 ∷ 0 ∷ 4 ∷ 0 ∷ 4 ∷ []
+    ≡ 3 ∷ 3 ∷ 7 ∷ 3 ∷ 7 ∷ 3 ∷ []
 unfolding tables-compute made seven five
 faults-address = refl
 
 faults-owner : map faultOf (
     made a6 0 five none none ∷ made a6 0 five (slotOf adjacent) none ∷ made a6 0 five (slotOf short) none
     ∷ made a6 0 five loose none ∷ made a6 0 five filled none ∷ made dname 0 zeros filled (slotOf pa) ∷ [])
-    ≡ 5 ∷ 5 ∷ 5 ∷ 5 ∷ 5 ∷ 5 ∷ []
+    ≡ 4 ∷ 4 ∷ 4 ∷ 4 ∷ 4 ∷ 4 ∷ []
 unfolding tables-compute made adjacent short loose filled zeros five none
 faults-owner = refl
 
@@ -105,7 +107,7 @@ faults-target : map faultOf (
     made a6 0 five (slotOf ha) (slotOf root) ∷ made a6 0 five (slotOf ha) (slotOf pa) ∷ made a6 64 seven (slotOf ha) none
     ∷ made dname 0 zeros (slotOf ha) none ∷ made a6 64 seven (slotOf ha) filled ∷ made a6 64 seven (slotOf ha) (slotOf adjacent)
     ∷ made a6 64 seven (slotOf ha) (slotOf root) ∷ [])
-    ≡ 6 ∷ 6 ∷ 6 ∷ 6 ∷ 6 ∷ 6 ∷ 0 ∷ []
+    ≡ 5 ∷ 5 ∷ 5 ∷ 5 ∷ 5 ∷ 5 ∷ 7 ∷ []
 unfolding tables-compute made root adjacent filled zeros five seven none
 faults-target = refl
 
@@ -113,7 +115,7 @@ faults-target = refl
 faults-ttl : map faultOf (
     recordOf a6 0 five (slotOf pa) none 0 ∷ recordOf a6 0 five (slotOf pa) none 2147483647 ∷ recordOf a6 0 five (slotOf pa) none 2147483648
     ∷ recordOf a6 0 five (slotOf pa) none 4294967295 ∷ recordOf dname 0 zeros (slotOf ha) (slotOf pa) 2147483648 ∷ recordOf a6 0 five (slotOf pa) (slotOf pa) 2147483648 ∷ [])
-    ≡ 0 ∷ 0 ∷ 7 ∷ 7 ∷ 7 ∷ 6 ∷ []
+    ≡ 7 ∷ 7 ∷ 6 ∷ 6 ∷ 6 ∷ 5 ∷ []
 unfolding tables-compute zeros five none
 faults-ttl = refl
 
@@ -136,6 +138,18 @@ checks : map checkOf (
     ≡ 0 ∷ 0 ∷ 1 ∷ 1 ∷ 1 ∷ 2 ∷ 2 ∷ 3 ∷ 3 ∷ 3 ∷ 0 ∷ 0 ∷ 0 ∷ []
 unfolding tables-compute good h64 p0 alias
 checks = refl
+
+-- the place of a table's fault (T-04): none in order or by its length; the first of two records at fault, and the first of its two fields; 2 before
+-- 3; the second DNAME of three with one owner, past one of another; the DNAME whose twin comes first, not the one that has the smaller owner
+place : ℕ → ℕ → Fault
+place i f = record { index = i; field = f }
+
+places : map faultIn (
+    [] ∷ good ∷ drop 1 good ∷ flat (h64 ∷ p0 ∷ set (set p0 3 1) 2 129 ∷ set p0 0 9 ∷ []) ∷ flat (alias ha pa ∷ alias ha ha ∷ set p0 3 1 ∷ [])
+    ∷ flat (alias ha pa ∷ alias pa pa ∷ alias HA ha ∷ alias ha ha ∷ []) ∷ flat (alias pa pa ∷ alias ha pa ∷ h64 ∷ alias ha ha ∷ alias pa ha ∷ []) ∷ [])
+    ≡ place 0 0 ∷ place 0 0 ∷ place 0 0 ∷ place 2 1 ∷ place 2 2 ∷ place 2 4 ∷ place 3 4 ∷ []
+unfolding tables-compute place good h64 p0 alias
+places = refl
 
 -- a name owns its A6 records in any spelling, and no others (T-03)
 owns : ownsA6 good 0 ha ∷ ownsA6 good 0 HA ∷ ownsA6 good 1 PA ∷ ownsA6 good 1 HA ∷ ownsA6 good 4 HA ∷ [] ≡ true ∷ true ∷ true ∷ false ∷ false ∷ []

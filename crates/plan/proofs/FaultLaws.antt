@@ -1,5 +1,5 @@
 -- Laws of a record's faults: the fields in their order, and what a record without a fault is like.
-use Prim.Native.Nat.{ℕ, _≤_}
+use Prim.Native.Nat.{ℕ, zero, suc, _+_, _-_, _≤_, _<_}
 use mathlib.Core.Path.{_≡_, refl, ap, _∙_, sym}
 use mathlib.Core.Bool.{Bool, true, false, not}
 use mathlib.Core.List.{List}
@@ -8,65 +8,42 @@ use lib.Dec.{leb, eqb}
 use native.Mathlib.Omega.{arith}
 use borrow.Author.Tests.{eq-eqb, ne-eqb, eqb-true, eqb-false, le-leb, leb-true, not-false}
 use Rattle.octets.proofs.BoolLaws.{and-false}
-use Rattle.octets.proofs.AnswerLaws.{earns-zero}
 use Rattle.octets.specs.Octets.{blank, same}
-use Rattle.octets.specs.Answers.{earns}
 use Rattle.octets.proofs.SameLaws.{same-eq, same-refl}
 use Rattle.names.specs.Standard.{inStandardForm}
 use Rattle.address.specs.Address.{clearTo}
 use Rattle.chains.specs.Graph.{maxTtl}
 use Rattle.address.proofs.ClearLaws.{clear-zero}
 use Rattle.plan.specs.Layout.{slotSize, a6, dname, typeOf, prefixOf, zeroOf, addressOf, ownerSlot, targetSlot, ttlOf, nameIn, slotOf, isA6, isType}
-use Rattle.plan.specs.Check.{slotGood, slotEmpty, typeGood, prefixGood, addressGood, targetless, targetGood, ttlGood, faultOf}
+use Rattle.plan.specs.Check.{slotGood, slotEmpty, typeGood, prefixGood, addressGood, targetless, targetGood, ttlGood, fieldCount, fieldGood, faultOf}
+use Rattle.plan.specs.First.{firstFrom}
 use Rattle.plan.specs.Good.{Holds, Good}
+use Rattle.plan.proofs.FirstLaws.{first-on, first-here, first-none, none-first}
 
--- what the tests from a field on earn, the last field first
-module _ (r : List ℕ) where
-  abbrev pub fromTtl : ℕ
-  fromTtl = earns (not (ttlGood r)) 7 0
+-- the first field at fault from a field on
+abbrev pub leftFrom : List ℕ → ℕ → ℕ
+leftFrom r f = firstFrom (λ i. not (fieldGood r i)) f (fieldCount - f)
 
-  abbrev pub fromTarget : ℕ
-  fromTarget = earns (not (targetGood r)) 6 fromTtl
-
-  abbrev pub fromOwner : ℕ
-  fromOwner = earns (not (slotGood (ownerSlot r))) 5 fromTarget
-
-  abbrev pub fromAddress : ℕ
-  fromAddress = earns (not (addressGood r)) 4 fromOwner
-
-  abbrev pub fromZero : ℕ
-  fromZero = earns (not (eqb (zeroOf r) 0)) 3 fromAddress
-
-  abbrev pub fromPrefix : ℕ
-  fromPrefix = earns (not (prefixGood r)) 2 fromZero
-
-  abbrev pub fromType : ℕ
-  fromType = earns (not (typeGood r)) 1 fromPrefix
-
-  pub fault-from : faultOf r ≡ fromType
-  unfolding faultOf
-  fault-from = refl
-
--- a test whose answer x is that of the field: it fails and earns its number, or it passes and the later ones are left
-module _ {x b : Bool} (n later : ℕ) (e : x ≡ b) where
-  pub test-fails : not x ≡ true → earns (not b) n later ≡ n
-  test-fails h = rw (← e, h)
-
-  pub test-passes : not x ≡ false → earns (not b) n later ≡ later
-  test-passes h = rw (← e, h)
-
--- the same for a number x that is to be 0
-module _ {x k : ℕ} (n later : ℕ) (e : x ≡ k) where
-  pub zero-fails : (x ≡ 0 → ⊥) → earns (not (eqb k 0)) n later ≡ n
-  zero-fails h = rw (← e, ne-eqb x 0 h)
-
-  pub zero-passes : x ≡ 0 → earns (not (eqb k 0)) n later ≡ later
-  zero-passes h = rw (← e, eq-eqb x 0 h)
-
-fault-none : (r : List ℕ) → typeGood r ≡ true → prefixGood r ≡ true → zeroOf r ≡ 0 → addressGood r ≡ true → slotGood (ownerSlot r) ≡ true → targetGood r ≡ true
-    → ttlGood r ≡ true → faultOf r ≡ 0
+pub fault-from : (r : List ℕ) → faultOf r ≡ leftFrom r 0
 unfolding faultOf
-fault-none r a b c d e f g = rw (a, b, eq-eqb (zeroOf r) 0 c, d, e, f, g)
+fault-from r = refl
+
+-- a test whose answer x is that of the field: it fails, and the field is the first, or it passes and the later ones are left
+module _ {x : Bool} (r : List ℕ) (f : ℕ) (l : f < fieldCount) (e : x ≡ fieldGood r f) where
+  pub field-fails : not x ≡ true → leftFrom r f ≡ f
+  field-fails h = first-here (λ i. not (fieldGood r i)) f fieldCount l (ap not (sym e) ∙ h)
+
+  pub field-passes : not x ≡ false → leftFrom r f ≡ leftFrom r (f + 1)
+  field-passes h = first-on (λ i. not (fieldGood r i)) f fieldCount l (ap not (sym e) ∙ h)
+
+-- a record without a fault passes each test
+pub fault-none : (r : List ℕ) → ((f : ℕ) → f < fieldCount → fieldGood r f ≡ true) → faultOf r ≡ fieldCount
+unfolding faultOf
+fault-none r h = none-first (λ i. not (fieldGood r i)) fieldCount (λ f l. ap not (h f l))
+
+pub none-fault : (r : List ℕ) → faultOf r ≡ fieldCount → (f : ℕ) → f < fieldCount → fieldGood r f ≡ true
+unfolding faultOf
+none-fault r h f l = not-false (fieldGood r f) (first-none (λ i. not (fieldGood r i)) fieldCount h f l)
 
 -- the tests of the fields, by the type
 module _ (r : List ℕ) where
@@ -165,32 +142,35 @@ record Passes (r : List ℕ) : Type 0 where
   target : targetGood r ≡ true
   ttl : ttlGood r ≡ true
 
-passes : (r : List ℕ) → faultOf r ≡ 0 → Passes r
-unfolding faultOf
-passes r h =
-    let a = earns-zero (not (typeGood r)) 0 _ h in
-    let b = earns-zero (not (prefixGood r)) 1 _ (a .1) in
-    let c = earns-zero (not (eqb (zeroOf r) 0)) 2 _ (b .1) in
-    let d = earns-zero (not (addressGood r)) 3 _ (c .1) in
-    let e = earns-zero (not (slotGood (ownerSlot r))) 4 _ (d .1) in
-    let f = earns-zero (not (targetGood r)) 5 _ (e .1) in
-    let g = earns-zero (not (ttlGood r)) 6 _ (f .1) in
-    record {
-      kind = not-false (typeGood r) (a .0);
-      prefix = not-false (prefixGood r) (b .0);
-      nought = eqb-true (zeroOf r) 0 (not-false (eqb (zeroOf r) 0) (c .0));
-      address = not-false (addressGood r) (d .0);
-      owner = not-false (slotGood (ownerSlot r)) (e .0);
-      target = not-false (targetGood r) (f .0);
-      ttl = not-false (ttlGood r) (g .0);
-    }
+passes : (r : List ℕ) → ((f : ℕ) → f < fieldCount → fieldGood r f ≡ true) → Passes r
+unfolding fieldGood
+passes r h = record {
+  kind = h 0 (omega arith);
+  prefix = h 1 (omega arith);
+  nought = eqb-true (zeroOf r) 0 (h 2 (omega arith));
+  address = h 3 (omega arith);
+  owner = h 4 (omega arith);
+  target = h 5 (omega arith);
+  ttl = h 6 (omega arith);
+}
+
+passing : (r : List ℕ) → Passes r → (f : ℕ) → f < fieldCount → fieldGood r f ≡ true
+unfolding fieldGood
+passing r p zero l = p .kind
+passing r p (suc zero) l = p .prefix
+passing r p (suc (suc zero)) l = eq-eqb (zeroOf r) 0 (p .nought)
+passing r p (suc (suc (suc zero))) l = p .address
+passing r p (suc (suc (suc (suc zero)))) l = p .owner
+passing r p (suc (suc (suc (suc (suc zero))))) l = p .target
+passing r p (suc (suc (suc (suc (suc (suc zero)))))) l = p .ttl
+passing r p (suc (suc (suc (suc (suc (suc (suc f))))))) l = let z : ⊥ = omega arith in absurd z
 
 -- Theorem: a record without a fault has its fields as the layout says
-pub fault-good : (r : List ℕ) → faultOf r ≡ 0 → Good r
+pub fault-good : (r : List ℕ) → faultOf r ≡ fieldCount → Good r
 fault-good r h = by-type (eqb (typeOf r) a6) refl
   where
     w : Passes r
-    w = passes r h
+    w = passes r (none-fault r h)
 
     target : targetless r ≡ false → Holds (targetSlot r)
     target e = slot-holds (targetSlot r) (sym (target-some r e) ∙ w .target)
@@ -233,19 +213,32 @@ fault-good r h = by-type (eqb (typeOf r) a6) refl
         }
 
 -- Theorem: a record whose fields are as the layout says has no fault
-pub good-fault : (r : List ℕ) → Good r → faultOf r ≡ 0
-good-fault r g = by-type (g .kind)
+pub good-fault : (r : List ℕ) → Good r → faultOf r ≡ fieldCount
+good-fault r g = fault-none r (passing r (by-type (g .kind)))
   where
     target : (t : Bool) → targetless r ≡ t → targetGood r ≡ true
     target true e = target-none r e ∙ eq-empty (targetSlot r) (g .none e)
     target false e = target-some r e ∙ holds-slot (targetSlot r) (g .target e)
 
-    by-type : (typeOf r ≡ a6) ⊎ (typeOf r ≡ dname) → faultOf r ≡ 0
-    by-type (inl k) =
-        fault-none r (type-a6 r k) (prefix-a6 r k ∙ le-leb (prefixOf r) 128 (g .prefix)) (g .nought) (address-a6 r k ∙ g .clear)
-        (holds-slot (ownerSlot r) (g .owner)) (target (targetless r) refl) (lived-ttl r (g .lived))
+    by-type : (typeOf r ≡ a6) ⊎ (typeOf r ≡ dname) → Passes r
+    by-type (inl k) = record {
+      kind = type-a6 r k;
+      prefix = prefix-a6 r k ∙ le-leb (prefixOf r) 128 (g .prefix);
+      nought = g .nought;
+      address = address-a6 r k ∙ g .clear;
+      owner = holds-slot (ownerSlot r) (g .owner);
+      target = target (targetless r) refl;
+      ttl = lived-ttl r (g .lived);
+    }
     by-type (inr d) =
         let k : typeOf r ≡ a6 → ⊥ = λ e. omega arith in
         let b = g .bare d in
-        fault-none r (type-other r k ∙ eq-eqb (typeOf r) dname d) (prefix-other r k ∙ eq-eqb (prefixOf r) 0 (b .0)) (g .nought) (address-other r k ∙ b .1)
-        (holds-slot (ownerSlot r) (g .owner)) (target (targetless r) refl) (lived-ttl r (g .lived))
+        record {
+          kind = type-other r k ∙ eq-eqb (typeOf r) dname d;
+          prefix = prefix-other r k ∙ eq-eqb (prefixOf r) 0 (b .0);
+          nought = g .nought;
+          address = address-other r k ∙ b .1;
+          owner = holds-slot (ownerSlot r) (g .owner);
+          target = target (targetless r) refl;
+          ttl = lived-ttl r (g .lived);
+        }

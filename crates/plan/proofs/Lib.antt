@@ -5,6 +5,7 @@ pub mod SlotLaws
 pub mod FirstLaws
 pub mod FaultLaws
 pub mod OrderLaws
+pub mod PlaceLaws
 pub mod MaskLaws
 pub mod MarkLaws
 pub mod AlikeLaws

@@ -11,6 +11,7 @@ use native.Mathlib.Omega.{arith}
 use native.Mathlib.Nat.{zero-add, mul-le-mul}
 use native.Mathlib.Numerals.{add-one}
 use borrow.Author.Tests.{lt-ltb, le-ltb, ltb-true, ltb-false, eq-eqb, ne-eqb, eqb-true, eqb-false}
+use Rattle.octets.specs.Octets.{among}
 use Rattle.names.specs.Standard.{lower, sameName}
 use Rattle.names.proofs.LowerLaws.{lower-ways}
 use Rattle.names.proofs.KeyLaws.{same-lowered}
@@ -18,7 +19,7 @@ use Rattle.plan.specs.Layout.{nameIn, slotOf, ownerSlot, isDname, record
 use Rattle.plan.specs.First.{some}
 use Rattle.plan.specs.Check.{twin, repeats}
 use Rattle.plan.specs.Good.{Holds}
-use Rattle.plan.specs.Marks.{caseless, termAt, sumTo, sumOf, markOf, markAt, Marked, Ready, among}
+use Rattle.plan.specs.Marks.{caseless, termAt, sumTo, sumOf, markOf, markAt, Marked, Ready}
 use Rattle.plan.proofs.SlotLaws.{lowered-length, lowered-slot}
 use Rattle.plan.proofs.FirstLaws.{none-first, none-some}
 use Rattle.plan.proofs.OrderLaws.{sound-good}
@@ -86,20 +87,6 @@ slot-mark m n h = case-mark (slotOf m) (slotOf n) (lowered-length m n h) (lowere
 pub same-mark : (s s′ : List ℕ) → Holds s → Holds s′ → sameName (nameIn s) (nameIn s′) ≡ true → markOf s ≡ markOf s′
 same-mark s s′ p q h =
     ap markOf (p .whole) ∙ slot-mark (nameIn s) (nameIn s′) (same-lowered (nameIn s) (nameIn s′) (p .name) (q .name) h) ∙ sym (ap markOf (q .whole))
-
--- the turns of the loop that looks for a mark
-module _ (m : ℕ) (marks : List ℕ) (i : ℕ) where
-  pub among-on : i < length marks → (getD marks i 0 ≡ m → ⊥) → among m (drop i marks) ≡ among m (drop (i + 1) marks)
-  unfolding among
-  among-on h e = rw (add-one, drop-cons marks i 0 h, among, ne-eqb (getD marks i 0) m e)
-
-  pub among-here : i < length marks → getD marks i 0 ≡ m → among m (drop i marks) ≡ true
-  unfolding among
-  among-here h e = rw (drop-cons marks i 0 h, among, eq-eqb (getD marks i 0) m e)
-
-  pub among-end : length marks ≤ i → among m (drop i marks) ≡ false
-  unfolding among
-  among-end h = rw (drop-of-length-le marks {i = i} h)
 
 -- a mark that is not among others is none of them
 pub among-not : (m : ℕ) (marks : List ℕ) → among m marks ≡ false → (i : ℕ) → i < length marks → getD marks i 0 ≡ m → ⊥

@@ -18,36 +18,43 @@ use Rattle.names.proofs.RoundLaws.{same-symmetric}
 use Rattle.plan.specs.First.{first, some}
 use Rattle.plan.specs.Layout.{recordSize, maxRecords, dname, typeOf, isDname, countOf, recordAt, ownerAt, ownerOf}
 use Rattle.plan.specs.Records.{typeAt}
-use Rattle.plan.specs.Check.{faultOf, faulty, firstFault, twin, repeats, firstRepeat, Shared, missized, checkOf, checkAnswer, InOrder}
+use Rattle.plan.specs.Check.{fieldCount, fieldGood, faultOf, faulty, firstFault, twin, repeats, firstRepeat, Shared, missized, checkOf, checkAnswer, InOrder}
 use Rattle.plan.specs.Good.{Good}
 use Rattle.plan.proofs.LayoutLaws.{Whole, octets-length, count-octets, record-octets}
 use Rattle.plan.proofs.SlotLaws.{bool-iff}
 use Rattle.plan.proofs.FirstLaws.{first-none, none-first, some-none, none-some, some-has, has-some}
 use Rattle.plan.proofs.FaultLaws.{fault-good, good-fault, type-is, is-type}
 
--- a table in which no record is at fault
-module _ (t : List ℕ) (s : firstFault t ≡ countOf t) where
-  pub sound-good : (i : ℕ) → i < countOf t → Good (recordAt t i)
-  unfolding firstFault faulty
-  sound-good i h =
-      fault-good (recordAt t i) (eqb-true (faultOf (recordAt t i)) 0 (not-false (eqb (faultOf (recordAt t i)) 0) (first-none (faulty t) (countOf t) s i h)))
-
-  pub sound-owner : (i : ℕ) → i < countOf t → inStandardForm (ownerAt t i) ≡ true
-  sound-owner i h = sound-good i h .owner .name
-
 -- a record at fault, and the end of the search for one
 module _ (t : List ℕ) where
-  pub faulty-is : (i : ℕ) → (faultOf (recordAt t i) ≡ 0 → ⊥) → faulty t i ≡ true
+  pub faulty-is : (i : ℕ) → faultOf (recordAt t i) < fieldCount → faulty t i ≡ true
   unfolding faulty
-  faulty-is i h = rw (ne-eqb (faultOf (recordAt t i)) 0 h)
+  faulty-is i h = lt-ltb (faultOf (recordAt t i)) fieldCount h
 
-  pub faulty-not : (i : ℕ) → faultOf (recordAt t i) ≡ 0 → faulty t i ≡ false
+  pub faulty-not : (i : ℕ) → fieldCount ≤ faultOf (recordAt t i) → faulty t i ≡ false
   unfolding faulty
-  faulty-not i h = rw (eq-eqb (faultOf (recordAt t i)) 0 h)
+  faulty-not i h = le-ltb (faultOf (recordAt t i)) fieldCount h
+
+  pub is-faulty : (i : ℕ) → faulty t i ≡ true → faultOf (recordAt t i) < fieldCount
+  unfolding faulty
+  is-faulty i h = ltb-true (faultOf (recordAt t i)) fieldCount h
+
+  pub not-faulty : (i : ℕ) → faulty t i ≡ false → faultOf (recordAt t i) ≡ fieldCount
+  unfolding faulty faultOf
+  not-faulty i h = some-none (λ f. not (fieldGood (recordAt t i) f)) fieldCount h
 
   pub no-fault : countOf t ≤ firstFault t → firstFault t ≡ countOf t
   unfolding firstFault
   no-fault h = some-none (faulty t) (countOf t) (le-ltb (firstFault t) (countOf t) h)
+
+-- a table in which no record is at fault
+module _ (t : List ℕ) (s : firstFault t ≡ countOf t) where
+  pub sound-good : (i : ℕ) → i < countOf t → Good (recordAt t i)
+  unfolding firstFault
+  sound-good i h = fault-good (recordAt t i) (not-faulty t i (first-none (faulty t) (countOf t) s i h))
+
+  pub sound-owner : (i : ℕ) → i < countOf t → inStandardForm (ownerAt t i) ≡ true
+  sound-owner i h = sound-good i h .owner .name
 
 -- the number, test by test
 module _ (t : List ℕ) where
@@ -100,19 +107,19 @@ module _ (t : List ℕ) where
   unfolding firstRepeat
   has-repeat = has-some (repeats t) (countOf t)
 
-  repeats-parts : (j : ℕ) → repeats t j ≡ true → (typeAt t j ≡ dname) × (some (twin t j) j ≡ true)
+  pub repeats-parts : (j : ℕ) → repeats t j ≡ true → (typeAt t j ≡ dname) × (some (twin t j) j ≡ true)
   unfolding repeats
   repeats-parts j h = let p = both-true (isDname (recordAt t j)) (some (twin t j) j) h in (is-type (recordAt t j) (p .0), p .1)
 
-  parts-repeats : (j : ℕ) → typeAt t j ≡ dname → some (twin t j) j ≡ true → repeats t j ≡ true
+  pub parts-repeats : (j : ℕ) → typeAt t j ≡ dname → some (twin t j) j ≡ true → repeats t j ≡ true
   unfolding repeats
   parts-repeats j d e = rw (type-is (recordAt t j) d) e
 
-  twin-parts : (j i : ℕ) → twin t j i ≡ true → (typeAt t i ≡ dname) × Same (ownerAt t i) (ownerAt t j)
+  pub twin-parts : (j i : ℕ) → twin t j i ≡ true → (typeAt t i ≡ dname) × Same (ownerAt t i) (ownerAt t j)
   unfolding twin
   twin-parts j i h = let p = both-true (isDname (recordAt t i)) (sameName (ownerAt t i) (ownerAt t j)) h in (is-type (recordAt t i) (p .0), same-name-same (ownerAt t i) (ownerAt t j) (p .1))
 
-  parts-twin : (j i : ℕ) → typeAt t i ≡ dname → Same (ownerAt t i) (ownerAt t j) → twin t j i ≡ true
+  pub parts-twin : (j i : ℕ) → typeAt t i ≡ dname → Same (ownerAt t i) (ownerAt t j) → twin t j i ≡ true
   unfolding twin
   parts-twin j i d e = rw (type-is (recordAt t i) d) (same-same-name (ownerAt t i) (ownerAt t j) e)
 
@@ -135,12 +142,13 @@ repeat-shared t = (there, back)
         let r = repeats-parts t (p .0) (p .2) in
         let q = some-has (twin t (p .0)) (p .0) (r .1) in
         let w = twin-parts t (p .0) (q .0) (q .2) in
-        record { first = q .0; second = p .0; order = q .1; there = p .1; one = w .0; other = r .0; owner = w .1 }
+        record { first = q .0; second = p .0; there = p .1; twins = record { order = q .1; one = w .0; other = r .0; owner = w .1 } }
 
     back : Shared t → ltb (firstRepeat t) (countOf t) ≡ true
     back s =
-        let w = parts-twin t (s .second) (s .first) (s .one) (s .owner) in
-        has-repeat t (s .second) (s .there) (parts-repeats t (s .second) (s .other) (has-some (twin t (s .second)) (s .second) (s .first) (s .order) w))
+        let w = s .twins in
+        let p = parts-twin t (s .second) (s .first) (w .one) (w .owner) in
+        has-repeat t (s .second) (s .there) (parts-repeats t (s .second) (w .other) (has-some (twin t (s .second)) (s .second) (s .first) (w .order) p))
 
 -- a table in order has whole records, not too many, each of them good, and no two DNAMEs with one owner
 module _ (t : List ℕ) (o : InOrder t) where
@@ -186,12 +194,12 @@ module _ (t : List ℕ) (o : InOrder t) where
 module _ (rs : List (List ℕ)) (w : Whole rs) where
   made-sound : ((i : ℕ) → i < length rs → Good (getD rs i [])) → firstFault (flat rs) ≡ countOf (flat rs)
   unfolding firstFault
-  made-sound g = none-first (faulty t) (countOf t) (λ i h. faulty-not t i (at-index i (omega (arith, count-octets rs w))))
+  made-sound g = none-first (faulty t) (countOf t) (λ i h. faulty-not t i (omega (arith, at-index i (omega (arith, count-octets rs w)))))
     where
       t : List ℕ
       t = flat rs
 
-      at-index : (i : ℕ) → i < length rs → faultOf (recordAt t i) ≡ 0
+      at-index : (i : ℕ) → i < length rs → faultOf (recordAt t i) ≡ fieldCount
       at-index i h = ap faultOf (record-octets rs w i h) ∙ good-fault (getD rs i []) (g i h)
 
   made-apart : ((i j : ℕ) → i < j → j < length rs → typeOf (getD rs i []) ≡ dname → typeOf (getD rs j []) ≡ dname → sameName (ownerOf (getD rs i [])) (ownerOf (getD rs j [])) ≡ false)

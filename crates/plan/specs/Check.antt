@@ -2,9 +2,9 @@
 use Prim.Native.Nat.{ℕ, _%_, _<_}
 use mathlib.Core.Path.{_≡_}
 use mathlib.Core.Bool.{Bool, true, false, not, _&&_, _||_}
-use mathlib.Core.List.{List}
+use mathlib.Core.List.{List, [], _∷_}
 use lib.Dec.{leb, ltb, eqb}
-use lib.ListN.{length}
+use lib.ListN.{length, getD}
 use Rattle.octets.specs.Octets.{blank, same}
 use Rattle.octets.specs.Answers.{earns, orElse, refusal}
 use Rattle.labels.specs.Scan.{wellFormed}
@@ -44,20 +44,29 @@ targetGood r = elim (targetless r) [ true ↦ slotEmpty (targetSlot r) | false �
 unfoldable pub ttlGood : List ℕ → Bool
 ttlGood r = leb (ttlOf r) maxTtl
 
--- the first field at fault: 1 type, 2 prefix length, 3 zero octet, 4 address, 5 owner, 6 target, 7 TTL; 0 where none is
+-- the fields of a record by number (T-04): 0 type, 1 prefix length, 2 zero octet, 3 address, 4 owner, 5 target, 6 TTL
+abbrev pub fieldCount : ℕ
+fieldCount = 7
+
+abbrev pub ownerField : ℕ
+ownerField = 4
+
+-- the tests of a record's fields, by number
+unfoldable pub testsOf : List ℕ → List Bool
+testsOf r = typeGood r ∷ prefixGood r ∷ eqb (zeroOf r) 0 ∷ addressGood r ∷ slotGood (ownerSlot r) ∷ targetGood r ∷ ttlGood r ∷ []
+
+-- the field of the record passes its test
+unfoldable pub fieldGood : List ℕ → ℕ → Bool
+unfolding testsOf
+fieldGood r f = getD (testsOf r) f true
+
+-- the first field at fault; the number of fields where none is
 unfoldable pub faultOf : List ℕ → ℕ
-faultOf r =
-    earns (not (typeGood r)) 1
-    (earns (not (prefixGood r)) 2
-    (earns (not (eqb (zeroOf r) 0)) 3
-    (earns (not (addressGood r)) 4
-    (earns (not (slotGood (ownerSlot r))) 5
-    (earns (not (targetGood r)) 6
-    (earns (not (ttlGood r)) 7 0))))))
+faultOf r = first (λ f. not (fieldGood r f)) fieldCount
 
 -- record i has a field at fault
 unfoldable pub faulty : List ℕ → ℕ → Bool
-faulty t i = not (eqb (faultOf (recordAt t i)) 0)
+faulty t i = ltb (faultOf (recordAt t i)) fieldCount
 
 -- the first record at fault
 unfoldable pub firstFault : List ℕ → ℕ
@@ -75,15 +84,19 @@ repeats t j = isDname (recordAt t j) && some (twin t j) j
 unfoldable pub firstRepeat : List ℕ → ℕ
 firstRepeat t = first (repeats t) (countOf t)
 
+-- records i and j, in this order, are DNAMEs with the same owner
+pub record Twins (t : List ℕ) (i j : ℕ) : Type 0 where
+  pub order : i < j
+  pub one : typeAt t i ≡ dname
+  pub other : typeAt t j ≡ dname
+  pub owner : Same (ownerAt t i) (ownerAt t j)
+
 -- 3 as a statement: two DNAMEs have the same owner
 pub record Shared (t : List ℕ) : Type 0 where
   pub first : ℕ
   pub second : ℕ
-  pub order : first < second
   pub there : second < countOf t
-  pub one : typeAt t first ≡ dname
-  pub other : typeAt t second ≡ dname
-  pub owner : Same (ownerAt t first) (ownerAt t second)
+  pub twins : Twins t first second
 
 -- the length is no multiple of a record's, or makes too many records
 unfoldable pub missized : List ℕ → Bool

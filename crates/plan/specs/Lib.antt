@@ -2,6 +2,7 @@ pub mod Layout
 pub mod Records
 pub mod First
 pub mod Check
+pub mod Faults
 pub mod Good
 pub mod Marks
 pub mod Part

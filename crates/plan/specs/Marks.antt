@@ -2,9 +2,9 @@
 -- The code's own: nothing that a reader must believe.
 use Prim.Native.Nat.{ℕ, zero, suc, _+_, _*_, _/_, _%_, _<_}
 use mathlib.Core.Path.{_≡_}
-use mathlib.Core.Bool.{Bool, true, false, _&&_, _||_}
-use mathlib.Core.List.{List, [], _∷_}
-use lib.Dec.{ltb, eqb}
+use mathlib.Core.Bool.{Bool, true, false, _&&_}
+use mathlib.Core.List.{List}
+use lib.Dec.{ltb}
 use lib.ListN.{length, getD, take}
 use Rattle.octets.specs.Octets.{sameBy, same}
 use Rattle.plan.specs.Layout.{ownerSlot, isDname, countOf, recordAt, isType}
@@ -70,8 +70,3 @@ pub record Ready (t marks : List ℕ) (j m : ℕ) : Type 0 where
   pub size : length marks ≡ j
   pub before : Marked t marks j
   pub own : m ≡ markAt t j
-
--- a mark stands in a list
-unfoldable pub among : ℕ → List ℕ → Bool
-among m [] = false
-among m (x ∷ xs) = eqb x m || among m xs

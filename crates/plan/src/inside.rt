@@ -5,15 +5,18 @@ ghost use Prim.Native.Nat.{_+_, _*_, _^_, _≤_, _<_};
 ghost use lib.Dec.{eqb};
 ghost use lib.ListN.{length, getD};
 ghost use lib.Seq.{paste};
+ghost use Rattle.octets.specs.Answers.{earns, orElse};
 ghost use Rattle.names.specs.Standard.{sameName};
 ghost use Rattle.chains.specs.Lists.{pick};
 ghost use Rattle.plan.specs.Layout.{recordSize, maxRecords, ownerPlace, nameRoom, slotSize, typeOf, prefixOf, zeroOf, addressOf, ownerSlot, targetSlot, ttlOf, nameIn, slotOf, recordOf, countOf, recordAt, prefixAt, addressAt, ownerAt, targetAt, ttlAt};
 ghost use Rattle.plan.specs.Records.{typeAt};
 ghost use Rattle.names.specs.Name.{heldOf};
 ghost use Rattle.plan.specs.Check.{targetless, entryNumber};
+ghost use Rattle.plan.specs.Faults.{faultIn};
 ghost use Rattle.plan.specs.Good.{Holds};
 ghost use Rattle.plan.specs.Marks.{wordAt, pairAt, maskedAt, termAt, sumTo, sumOf, markOf, alikeOf};
 ghost use Rattle.plan.specs.Part.{ownerWithin};
+use crate::Fault;
 use crate::Part;
 
 // The octets of a record (01, The plan table; T-01).
@@ -36,33 +39,40 @@ pub const DNAME: u16 = 39;
 // All bits of the four octets of a word but the one of each that tells the case of a letter (T-03).
 const CASELESS: usize = 0xDFDFDFDF;
 
-// What a table and a given name earn together, and the name in standard form, none where it is malformed.
+// What a table and a given name earn together, the place of the table's fault, and the name in standard form, none where it is malformed.
 pub struct Entered {
     pub number: u8,
+    pub fault: Fault,
     pub name: names::Name,
 }
 
 // The entry of each operation on a table and a given name: the check of the table, then the name.
 pub fn enter(table: &[u8], name: &[u8]) -> Entered
-    ensures { λ r. ⌜ (r .number ≡ entryNumber (now (table .entry)) (now (name .entry))) × (r .name ≡ heldOf (now (name .entry))) ⌝ }
+    ensures { λ r. ⌜ (r .number ≡ entryNumber (now (table .entry)) (now (name .entry))) × (r .fault ≡ faultIn (now (table .entry))) × (r .name ≡ heldOf (now (name .entry))) ⌝ }
 {
     let held = names::hold(name);
     let length = held.length;
     let checked = crate::check(table);
-    let number = checked.number;
-    if number != 0 {
-        return Entered { number, name: held };
-    }
-    if length == 0 {
-        return Entered {
-            number: 4,
-            name: held,
-        };
-    }
+    let fault = checked.fault;
+    let number = named(checked.answer.number, length);
     Entered {
-        number: 0,
+        number,
+        fault,
         name: held,
     }
+}
+
+// The table's number, or else 4 for a name of length 0, which is malformed.
+fn named(number: u8, length: u8) -> u8
+    ensures { λ r. ⌜ r ≡ orElse number (earns (eqb length 0) 4 0) ⌝ }
+{
+    if number != 0 {
+        return number;
+    }
+    if length == 0 {
+        return 4;
+    }
+    0
 }
 
 // How many records a table has.

@@ -3,10 +3,13 @@ ghost use mathlib.Core.Path.{_≡_};
 ghost use mathlib.Core.Bool.{true};
 ghost use Prim.Native.Nat.{_≤_, _<_};
 ghost use lib.ListN.{length};
+ghost use Rattle.octets.specs.Octets.{among};
+ghost use Rattle.octets.specs.Answers.{refusal};
 ghost use Rattle.plan.specs.First.{some};
 ghost use Rattle.plan.specs.Layout.{recordSize, maxRecords, slotSize, isDname, countOf, recordAt};
 ghost use Rattle.plan.specs.Check.{slotGood, typeGood, prefixGood, addressGood, targetGood, ttlGood, faultOf, firstFault, twin, repeats, firstRepeat, checkAnswer};
-ghost use Rattle.plan.specs.Marks.{markAt, Ready, among};
+ghost use Rattle.plan.specs.Faults.{replying};
+ghost use Rattle.plan.specs.Marks.{markAt, Ready};
 ghost use Rattle.plan.specs.Part.{IsPart, emptyPart, ownerPart};
 
 // The most records of a table (01, The plan table).
@@ -15,33 +18,58 @@ const MAX_RECORDS: usize = 1024;
 // The greatest TTL (T-01).
 const MAX_TTL: u32 = 2147483647;
 
+// The fields of a record, which are numbered from 0, and the one that holds its owner (T-04).
+const FIELDS: u8 = 7;
+
+const OWNER_FIELD: u8 = 4;
+
+// The place of a table's fault (T-04): the index of the record, and the number of its field. Both are 0 where there is no such place.
+pub struct Fault {
+    pub index: u32,
+    pub field: u8,
+}
+
+// What an operation on a table replies: its answer, and beside it the place of the table's fault, for 2 and 3.
+pub struct Reply {
+    pub answer: octets::Answer,
+    pub fault: Fault,
+}
+
 // A part of a table: where it starts and how many octets it has.
 pub struct Part {
     pub offset: usize,
     pub length: usize,
 }
 
-// Whether a table is in order: 0, or 1, 2 or 3 (01, What comes back).
-pub fn check(table: &[u8]) -> octets::Answer
-    ensures { λ r. ⌜ r ≡ checkAnswer (now (table .entry)) ⌝ }
+// Whether a table is in order: 0, or 1, 2 or 3 (01, What comes back); for 2 and 3 also which record and which field (T-04).
+pub fn check(table: &[u8]) -> Reply
+    ensures { λ r. ⌜ r ≡ replying (now (table .entry)) (checkAnswer (now (table .entry))) ⌝ }
 {
     let n = inside::count(table);
     if table.len() % inside::RECORD != 0 {
-        return octets::refused(1);
+        return told(1, 0, 0);
     }
     if MAX_RECORDS < n {
-        return octets::refused(1);
+        return told(1, 0, 0);
     }
-    if first_fault(table) < n {
-        return octets::refused(2);
+    let i = first_fault(table);
+    if i < n {
+        return told(2, i as u32, first_field(inside::row(table, i)));
     }
-    if first_repeat(table) < n {
-        return octets::refused(3);
+    let j = first_repeat(table);
+    if j < n {
+        return told(3, j as u32, OWNER_FIELD);
     }
-    octets::Answer {
-        number: 0,
-        count: 0,
-        work: 0,
+    told(0, 0, 0)
+}
+
+// The check's reply: a number, and a place.
+fn told(number: u8, index: u32, field: u8) -> Reply
+    ensures { λ r. ⌜ r ≡ record { answer = refusal number; fault = record { index = index; field = field } } ⌝ }
+{
+    Reply {
+        answer: octets::refused(number),
+        fault: Fault { index, field },
     }
 }
 
@@ -59,8 +87,8 @@ pub fn owner(table: &[u8], index: usize) -> &[u8]
 fn owner_part(table: &[u8], index: usize) -> Part
     ensures { λ r. ⌜ r ≡ ownerPart (now (table .entry)) index ⌝ }
 {
-    let answer = check(table);
-    let earned = answer.number;
+    let reply = check(table);
+    let earned = reply.answer.number;
     if earned != 0 {
         return nowhere();
     }
@@ -87,7 +115,7 @@ fn first_fault(table: &[u8]) -> usize
     let n = inside::count(table);
     let mut i: usize = 0;
     while i < n {
-        if fault(inside::row(table, i)) != 0 {
+        if first_field(inside::row(table, i)) < FIELDS {
             return i;
         }
         i += 1;
@@ -95,33 +123,33 @@ fn first_fault(table: &[u8]) -> usize
     n
 }
 
-// The first field of a record that is at fault, counted from 1; 0 where none is.
-fn fault(row: &[u8]) -> u8
+// The first field of a record that is at fault; the number of fields where none is.
+fn first_field(row: &[u8]) -> u8
     requires { ⌜ length (now row) ≡ recordSize ⌝ }
     ensures { λ r. ⌜ r ≡ faultOf (now (row .entry)) ⌝ }
 {
     if !type_good(row) {
-        return 1;
+        return 0;
     }
     if !prefix_good(row) {
-        return 2;
+        return 1;
     }
     if inside::zero_of(row) != 0 {
-        return 3;
+        return 2;
     }
     if !address_good(row) {
-        return 4;
+        return 3;
     }
     if !slot_good(inside::owner_slot(row)) {
-        return 5;
+        return 4;
     }
     if !target_good(row) {
-        return 6;
+        return 5;
     }
     if !ttl_good(row) {
-        return 7;
+        return 6;
     }
-    0
+    FIELDS
 }
 
 // The type: A6 or DNAME.

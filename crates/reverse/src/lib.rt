@@ -6,41 +6,58 @@ ghost use Rattle.octets.specs.Octets.{blank};
 ghost use Rattle.names.specs.Standard.{encode};
 ghost use Rattle.plan.specs.Layout.{addressSize, nameRoom, countOf};
 ghost use Rattle.plan.specs.Check.{InOrder};
+ghost use Rattle.plan.specs.Faults.{faultIn, replying};
 ghost use Rattle.reverse.specs.Walk.{startOf, walkOf};
 ghost use Rattle.reverse.specs.Answers.{rulesOf, earlyNumber, answerFor, outFor, reverseAnswer, reverseOut};
 ghost use Rattle.rewriting.specs.Spots.{unitsAt, Standing};
 ghost use Rattle.reverse.specs.Choice.{betterOf, Chosen};
 
 // The name at which the rewriting of an address's reverse name ends, in standard form with zeros after it; its length, and the rewrites (01, Reverse names).
-pub fn lookup(table: &[u8], address: &[u8], limit: u8, out: &mut [u8]) -> octets::Answer
-    ensures { λ r. ⌜ r ≡ reverseAnswer (now (table .entry)) (now (address .entry)) limit (length (now (out .entry))) ⌝ }
-    ensures { λ _. ⌜ now (out .exit) ≡ reverseOut (now (table .entry)) (now (address .entry)) limit (length (now (out .entry))) ⌝ }
+// Beside 2 and 3 the place of the table's fault (T-04).
+pub fn lookup(table: &[u8], address: &[u8], limit: u8, out: &mut [u8]) -> plan::Reply
+    ensures reply { λ r. ⌜ r ≡ replying (now (table .entry)) (reverseAnswer (now (table .entry)) (now (address .entry)) limit (length (now (out .entry)))) ⌝ }
+    ensures output { λ _. ⌜ now (out .exit) ≡ reverseOut (now (table .entry)) (now (address .entry)) limit (length (now (out .entry))) ⌝ }
 {
     octets::clear(out);
-    let number = early(table, address, out.len());
+    let begun = early(table, address, out.len());
+    let number = begun.number;
+    let fault = begun.fault;
     if number != 0 {
-        return octets::refused(number);
+        return plan::Reply {
+            answer: octets::refused(number),
+            fault,
+        };
     }
     let name = start(address);
-    walk(table, &name, limit, 0, out)
+    plan::Reply {
+        answer: walk(table, &name, limit, 0, out),
+        fault,
+    }
 }
 
-// The number that is earned before the walk: the table's, 4 for the address, 5 for an output of `room` octets.
-fn early(table: &[u8], address: &[u8], room: usize) -> u8
-    ensures { λ r. ⌜ r ≡ earlyNumber (now (table .entry)) (now (address .entry)) room ⌝ }
+// What is known before the walk: the number that is earned, and the place of the table's fault.
+pub struct Begun {
+    pub number: u8,
+    pub fault: plan::Fault,
+}
+
+// The number is the table's, 4 for the address, 5 for an output of `room` octets.
+fn early(table: &[u8], address: &[u8], room: usize) -> Begun
+    ensures { λ r. ⌜ (r .number ≡ earlyNumber (now (table .entry)) (now (address .entry)) room) × (r .fault ≡ faultIn (now (table .entry))) ⌝ }
 {
     let checked = plan::check(table);
-    let number = checked.number;
+    let fault = checked.fault;
+    let number = checked.answer.number;
     if number != 0 {
-        return number;
+        return Begun { number, fault };
     }
     if address.len() != 16 {
-        return 4;
+        return Begun { number: 4, fault };
     }
     if room != 255 {
-        return 5;
+        return Begun { number: 5, fault };
     }
-    0
+    Begun { number: 0, fault }
 }
 
 // The name that a walk starts from: one bit label with the bits of the address, then IP6 and ARPA.

@@ -22,7 +22,7 @@ returns c =
     let t = c .before .before .before .before .report in
     let d = c .before .before .before .before .before .before .before .before .before in
     let a = d .before .before .before .before .before .before .args in
-    reported (length (a .figures .now)) _ _ _ (length (a .out .now)) _ _ _ _ _ _ (d .collapse .ensures) (d .collapse .kept .1 .1 .0) (t .ensures)
+    reported (a .table .now) (length (a .figures .now)) _ _ _ (length (a .out .now)) _ _ _ _ _ _ (d .collapse .ensures) (d .collapse .kept .1 .1 .0) (t .ensures)
 
 pub a6plan-collapse-spec : {M : Type 1} → statement M
 a6plan-collapse-spec = tie.close (tie.spec collapse-requires report-requires same-length same-length-2 returns)

@@ -12,6 +12,7 @@ use Rattle.plan.specs.Layout.{maxRecords, recordSize, ownerPlace}
 use Rattle.plan.specs.Part.{ownerPart}
 use Rattle.plan.proofs.PartLaws.{part-small, part-long, part-place}
 use Rattle.a6plan.specs.Exports.{exportedFigures}
+use Rattle.a6plan.proofs.ExportLaws.{refuses-part}
 use Rattle.a6plan.proofs.a6plan_owner.Statement.{statement}
 use Rattle.a6plan.proofs.a6plan_owner.Tie as tie
 
@@ -41,14 +42,17 @@ owner-requires c κs = search needs
 owner-place-requires : tie.Need-owner-place-requires
 owner-place-requires c κs = λ h. part-place (begun c .args .table .now) (begun c .args .index) .1 (λ e. h (long c ∙ e))
 
-cast-t8 : tie.Need-cast-t8
-cast-t8 c = omega (arith, place c, small (c .before))
-
 cast-t9 : tie.Need-cast-t9
-cast-t9 c = omega (arith, long (c .before), small (c .before))
+cast-t9 c = omega (arith, place c, small (c .before))
+
+cast-t10 : tie.Need-cast-t10
+cast-t10 c = omega (arith, long (c .before), small (c .before))
+
+slice-aggregate-figure : tie.Need-slice-aggregate-figure
+slice-aggregate-figure c = search needs
 
 figure-requires : tie.Need-figure-requires
-figure-requires c κs = search needs
+figure-requires c κs = refuses-part
 
 same-length : tie.Need-same-length
 same-length c = search needs
@@ -56,10 +60,10 @@ same-length c = search needs
 returns : tie.Need-returns
 returns c =
     let f = c .before .before .figure in
-    let p = c .before .before .before .before in
+    let p = c .before .before .before .before .before in
     let k = p .before in
     let n = length (begun k .args .figures .now) in
     (f .ensures .0, f .ensures .1 ∙ λ i. exportedFigures (f .result) (answering (place p i) (long k i)) n)
 
 pub a6plan-owner-spec : {M : Type 1} → statement M
-a6plan-owner-spec = tie.close (tie.spec owner-requires owner-place-requires cast-t8 cast-t9 figure-requires same-length returns)
+a6plan-owner-spec = tie.close (tie.spec owner-requires owner-place-requires cast-t9 cast-t10 slice-aggregate-figure figure-requires same-length returns)

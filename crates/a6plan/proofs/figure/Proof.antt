@@ -6,7 +6,7 @@ use lib.ListN.{length, length-set}
 use native.Mathlib.Omega.{arith}
 use borrow.Author.Needs.{needs}
 use Rattle.octets.proofs.AnswerLaws.{refused-out}
-use Rattle.a6plan.specs.Exports.{exportedNumber}
+use Rattle.a6plan.specs.Exports.{Figured, exportedNumber}
 use Rattle.a6plan.proofs.ExportLaws.{exported-zero, figures-written, full-out}
 use Rattle.a6plan.proofs.figure.Statement.{statement}
 use Rattle.a6plan.proofs.figure.Tie as tie
@@ -17,23 +17,31 @@ clear-requires c κs = search needs
 exported-requires : tie.Need-exported-requires
 exported-requires c κs = search needs
 
--- the number that comes back is the exported one
-told : (c : tie.After-exported) → c .exported .result ≡ exportedNumber (length (c .before .before .before .before .before .before .args .figures .now)) (c .before .before .before .before .before .before .args .answer .number)
-told c = c .exported .ensures ∙ ap (λ (k : ℕ). exportedNumber k (c .before .before .before .before .before .before .args .answer .number)) (c .before .before .before .clear .kept .0)
+-- where the exported number is known: the way back, and what was handed in
+abbrev begun : tie.After-exported → tie.Start
+begun c = c .before .before .before .before .before .before .before
+
+abbrev number : tie.After-exported → ℕ
+number c = begun c .args .answer .number
+
+abbrev places : tie.After-exported → ℕ
+places c = length (begun c .args .figures .now)
+
+abbrev figured : tie.After-exported → Figured
+figured c = record { wanted = 2; earlier = begun c .args .earlier .now }
+
+told : (c : tie.After-exported) → c .exported .result ≡ exportedNumber (figured c) (places c) (number c)
+told c = c .exported .ensures ∙ ap (λ (k : ℕ). exportedNumber (figured c) k (number c)) (c .before .before .before .clear .kept .0)
 
 -- where it is 0 there are two places
 two : (c : tie.After-exported) → c .exported .result ≡ 0 → length (c .before .before .before .clear .last .0) ≡ 2
-two c h =
-    c .before .before .before .clear .kept .0
-    ∙ exported-zero (length (c .before .before .before .before .before .before .args .figures .now)) (c .before .before .before .before .before .before .args .answer .number) (sym (told c) ∙ h) .0
+two c h = c .before .before .before .clear .kept .0 ∙ exported-zero (figured c) (begun c .pre) (places c) (number c) (sym (told c) ∙ h) .0
 
 same-length : tie.Need-same-length
 same-length c = search needs
 
 returns : tie.Need-returns
-returns c =
-    let a = c .before .before .before .before .before .before .before .args in
-    (told (c .before), c .before .before .before .before .clear .ensures ∙ refused-out (c .before .exported .result) _ refl (c .if1 .taken) _ (length (a .figures .now)))
+returns c = let k = c .before in (told k, k .before .before .before .clear .ensures ∙ refused-out (k .exported .result) _ refl (c .if1 .taken) _ (places k))
 
 slice-write-figures : tie.Need-slice-write-figures
 slice-write-figures c = omega (arith, two (c .before) (c .if1 .left))
@@ -46,11 +54,11 @@ same-length-2 c = search needs
 
 returns-2 : tie.Need-returns-2
 returns-2 c =
-    let a = c .before .before .before .before .before .before .before .args in (
-      sym (c .if1 .left) ∙ told (c .before),
-      figures-written (a .answer .count) (a .answer .work) (c .before .before .before .before .clear .last .0) (two (c .before) (c .if1 .left))
-          ∙ full-out (a .answer .count ∷ a .answer .work ∷ []) (length (a .figures .now)) (sym (two (c .before) (c .if1 .left)) ∙ c .before .before .before .before .clear .kept .0),
-    )
+    let k = c .before in
+    let a = begun k .args .answer in
+    let t = two k (c .if1 .left) in
+    let o = k .before .before .before .clear in
+    (sym (c .if1 .left) ∙ told k, figures-written (a .count) (a .work) (o .last .0) t ∙ full-out (a .count ∷ a .work ∷ []) (places k) (sym t ∙ o .kept .0))
 
 pub figure-spec : {M : Type 1} → statement M
 figure-spec =

@@ -1,12 +1,12 @@
 -- `a6plan::keep_numbers` meets its contract.
 use mathlib.Core.Path.{_∙_}
 use borrow.Author.Needs.{needs}
-use Rattle.a6plan.proofs.ExportLaws.{keeps-two, keeps-none}
+use Rattle.a6plan.proofs.ExportLaws.{keeps-all, keeps-none}
 use Rattle.a6plan.proofs.keep_numbers.Statement.{statement}
 use Rattle.a6plan.proofs.keep_numbers.Tie as tie
 
 returns : tie.Need-returns
-returns c = let a = c .before .before .args in keeps-two (a .n) (a .list .now) (c .if1 .taken)
+returns c = let a = c .before .before .args in keeps-all (a .wanted) (a .n) (a .list .now) (c .if1 .taken)
 
 clear-requires : tie.Need-clear-requires
 clear-requires c κs = search needs
@@ -18,7 +18,7 @@ returns-2 : tie.Need-returns-2
 returns-2 c =
     let e = c .before .before .before .before in
     let a = e .before .before .args in
-    c .before .before .clear .ensures ∙ keeps-none (a .n) (a .list .now) (e .if1 .left)
+    c .before .before .clear .ensures ∙ keeps-none (a .wanted) (a .n) (a .list .now) (e .if1 .left)
 
 pub keep-numbers-spec : {M : Type 1} → statement M
 keep-numbers-spec = tie.close (tie.spec returns clear-requires same-length returns-2)

@@ -7,8 +7,8 @@ use native.Mathlib.Omega.{arith}
 use borrow.Author.Needs.{needs}
 use Rattle.octets.specs.Answers.{answerBy, outBy}
 use Rattle.a6.specs.Parts.{laidOf, laidNumber}
-use Rattle.a6plan.specs.Exports.{valueIn, valueSize, misfit, exportedNumber, exportedFigures}
-use Rattle.a6plan.proofs.ExportLaws.{fits, unwritten, written, cleared-if, kept-if, value-parts}
+use Rattle.a6plan.specs.Exports.{valueIn, valueSize, misfit, ofPart, exportedNumber, exportedFigures}
+use Rattle.a6plan.proofs.ExportLaws.{refuses-part, fits, unwritten, written, cleared-if, kept-if, value-parts}
 use Rattle.a6plan.proofs.write_from.Statement.{statement}
 use Rattle.a6plan.proofs.write_from.Tie as tie
 
@@ -72,8 +72,11 @@ lay-requires c κs =
     let p = value-parts (begun e .args .value .now) (sized e) in
     (p .0, p .1, begun e .pre)
 
+slice-aggregate-figure : tie.Need-slice-aggregate-figure
+slice-aggregate-figure c = search needs
+
 figure-requires : tie.Need-figure-requires
-figure-requires c κs = search needs
+figure-requires c κs = refuses-part
 
 same-length-3 : tie.Need-same-length-3
 same-length-3 c = search needs
@@ -84,16 +87,16 @@ same-length-4 c = search needs
 returns-2 : tie.Need-returns-2
 unfolding valueIn
 returns-2 c =
-    let e = c .before .before .before .before .before .before .before .before .before .before .before .before in
+    let e = c .before .before .before .before .before .before .before .before .before .before .before .before .before in
     let a = begun e .args in
     let v = valueIn (a .value .now) in
-    let o = c .before .before .before .before .before .before .lay .ensures in
+    let o = c .before .before .before .before .before .before .before .lay .ensures in
     let f = c .before .before .figure .ensures in
     let out = ap length (kept e .0) in
     let figures = ap length (kept e .1) in
     written _ _ (laidNumber v (a .before) (length (a .out .now))) (laidOf v (a .before)) (length (a .out .now)) (fitting e)
     (o .0 ∙ ap (λ (n : ℕ). answerBy (laidNumber v (a .before) n) (length (laidOf v (a .before))) 0) out, o .1 ∙ ap (λ (n : ℕ). outBy (laidNumber v (a .before) n) (laidOf v (a .before)) n) out)
-    (f .0 ∙ ap (λ (n : ℕ). exportedNumber n (c .before .before .before .before .before .before .lay .result .number)) figures, f .1 ∙ ap (exportedFigures (c .before .before .figure .result) (c .before .before .before .before .before .before .lay .result)) figures)
+    (f .0 ∙ ap (λ (n : ℕ). exportedNumber ofPart n (c .before .before .before .before .before .before .before .lay .result .number)) figures, f .1 ∙ ap (exportedFigures (c .before .before .figure .result) (c .before .before .before .before .before .before .before .lay .result)) figures)
 
 pub write-from-spec : {M : Type 1} → statement M
 write-from-spec =
@@ -112,6 +115,7 @@ write-from-spec =
     part-lay-start-2
     part-lay-end-2
     lay-requires
+    slice-aggregate-figure
     figure-requires
     same-length-3
     same-length-4

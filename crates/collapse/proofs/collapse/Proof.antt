@@ -12,6 +12,7 @@ use Rattle.names.specs.Standard.{standardOf}
 use Rattle.names.proofs.RoundLaws.{standard-formed, same-standard}
 use Rattle.plan.specs.declared.inside.Entered.{Entered}
 use Rattle.plan.proofs.EntryLaws.{Enters, enters}
+use Rattle.plan.proofs.PlaceLaws.{replies}
 use Rattle.collapse.specs.Collapse.{numberOf, collapseAnswer, collapseOut}
 use Rattle.collapse.proofs.CollapseLaws.{number-entry, number-output, answer-same, out-same}
 use Rattle.collapse.proofs.collapse.Statement.{statement}
@@ -22,7 +23,7 @@ abbrev Taken : Type 0
 Taken = tie.After-wide
 
 abbrev begun : Taken → tie.Start
-begun c = c .before .before .before .before .before .before .before
+begun c = c .before .before .before .before .before .before .before .before
 
 abbrev table : Taken → List ℕ
 table c = begun c .args .table .now
@@ -34,13 +35,13 @@ abbrev size : Taken → ℕ
 size c = length (begun c .args .out .now)
 
 small : (c : Taken) → Small (name c)
-small c i = omega (arith, c .before .before .before .before .before .shared-slice-known2 .given i)
+small c i = omega (arith, c .before .before .before .before .before .before .shared-slice-known2 .given i)
 
 abbrev entry : Taken → Entered
-entry c = c .before .before .before .enter .result
+entry c = c .before .before .before .before .enter .result
 
 held : (c : Taken) → Enters (table c) (name c) (entry c) (c .wide .result)
-held c = let l : length (entry c .name .octets) ≡ 255 = search needs in enters _ _ (entry c) _ l (c .before .before .before .enter .ensures) (c .wide .ensures)
+held c = let l : length (entry c .name .octets) ≡ 255 = search needs in enters _ _ (entry c) _ l (c .before .before .before .before .enter .ensures) (c .wide .ensures)
 
 -- ---- what it owes
 enter-requires : tie.Need-enter-requires
@@ -63,7 +64,7 @@ returns c =
     let n = entry k .number in
     let f = held k .earned in
     let e : n ≡ numberOf (table k) (name k) (size k) = f ∙ sym (number-entry (table k) (name k) (size k) (λ h. t .if1 .taken (f ∙ h))) in
-    (r .refuse .ensures .0 ∙ refused-answer n _ e (t .if1 .taken) _ 0, r .refuse .ensures .1 ∙ refused-out n _ e (t .if1 .taken) _ (size k))
+    (replies (table k) (r .refuse .ensures .0 ∙ refused-answer n _ e (t .if1 .taken) _ 0) (held k .placed), r .refuse .ensures .1 ∙ refused-out n _ e (t .if1 .taken) _ (size k))
 
 refuse-requires-2 : tie.Need-refuse-requires-2
 refuse-requires-2 c κs = search needs
@@ -77,7 +78,7 @@ returns-2 c =
     let t = r .before .before in
     let k = t .before .before in
     let e = sym (number-output (table k) (name k) (size k) (sym (held k .earned) ∙ t .before .if1 .left) (t .if2 .taken)) in
-    (r .refuse2 .ensures .0 ∙ refused-answer 5 _ e (not-nought 4) _ 0, r .refuse2 .ensures .1 ∙ refused-out 5 _ e (not-nought 4) _ (size k))
+    (replies (table k) (r .refuse2 .ensures .0 ∙ refused-answer 5 _ e (not-nought 4) _ 0) (held k .placed), r .refuse2 .ensures .1 ∙ refused-out 5 _ e (not-nought 4) _ (size k))
 
 array-share-prefix-standard : tie.Need-array-share-prefix-standard
 array-share-prefix-standard c = held (c .before .before) .fits
@@ -106,7 +107,7 @@ returns-3 c =
     let x = name k in
     let g = same-standard x (small k) w in
     let m = standard-formed x (small k) w ∙ sym w in (
-      f .fold .ensures .0 ∙ ap (λ (y : List ℕ). collapseAnswer (table k) y (size k)) p ∙ answer-same (table k) (standardOf x) x (size k) g m,
+      replies (table k) (f .fold .ensures .0 ∙ ap (λ (y : List ℕ). collapseAnswer (table k) y (size k)) p ∙ answer-same (table k) (standardOf x) x (size k) g m) (held k .placed),
       f .fold .ensures .1 ∙ ap (λ (y : List ℕ). collapseOut (table k) y (size k)) p ∙ out-same (table k) (standardOf x) x (size k) g m,
     )
 

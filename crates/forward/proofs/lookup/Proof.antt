@@ -11,6 +11,7 @@ use Rattle.octets.specs.Octets.{blank, Small}
 use Rattle.octets.proofs.AnswerLaws.{not-nought, refused-answer, refused-out}
 use Rattle.plan.specs.declared.inside.Entered.{Entered}
 use Rattle.plan.proofs.EntryLaws.{Enters, enters}
+use Rattle.plan.proofs.PlaceLaws.{replies}
 use Rattle.forward.specs.Lookup.{misfit, lookupNumber}
 use Rattle.forward.proofs.LookupLaws.{lookup-entry, lookup-misfit, lookup-answered, lookup-written, lookup-lasting, misfit-not}
 use Rattle.forward.proofs.lookup.Statement.{statement}
@@ -21,7 +22,7 @@ abbrev Taken : Type 0
 Taken = tie.After-wide
 
 abbrev begun : Taken → tie.Start
-begun c = c .before .before .before .before .before .before .before .before .before .before .before .before .before .before .before .before
+begun c = c .before .before .before .before .before .before .before .before .before .before .before .before .before .before .before .before .before
 
 abbrev table : Taken → List ℕ
 table c = begun c .args .table .now
@@ -39,14 +40,14 @@ abbrev number : Taken → ℕ
 number c = lookupNumber (table c) (name c) (begun c .args .limit) (size c) (room c)
 
 small : (c : Taken) → Small (name c)
-small c i = omega (arith, c .before .before .before .before .before .before .before .before .before .before .before .before .before .before .shared-slice-known2 .given i)
+small c i = omega (arith, c .before .before .before .before .before .before .before .before .before .before .before .before .before .before .before .shared-slice-known2 .given i)
 
 -- the lists, cleared
 abbrev out : Taken → List ℕ
-out c = c .before .before .before .before .before .before .before .before .before .before .clear .last .0
+out c = c .before .before .before .before .before .before .before .before .before .before .before .clear .last .0
 
 abbrev ttls : Taken → List ℕ
-ttls c = c .before .before .before .before .before .before .clear2 .last .0
+ttls c = c .before .before .before .before .before .before .before .clear2 .last .0
 
 record Blank (c : Taken) : Type 0 where
   zeros : out c ≡ blank (size c)
@@ -56,16 +57,16 @@ record Blank (c : Taken) : Type 0 where
 
 blanked : (c : Taken) → Blank c
 blanked c =
-    let o = c .before .before .before .before .before .before .before .before .before .before .clear in
-    let l = c .before .before .before .before .before .before .clear2 in
+    let o = c .before .before .before .before .before .before .before .before .before .before .before .clear in
+    let l = c .before .before .before .before .before .before .before .clear2 in
     record { zeros = o .ensures; long = o .kept .0; noughts = l .ensures; lasting = l .kept .0 }
 
 -- what both earned, and the name that is held
 abbrev entry : Taken → Entered
-entry c = c .before .before .before .enter .result
+entry c = c .before .before .before .before .enter .result
 
 held : (c : Taken) → Enters (table c) (name c) (entry c) (c .wide .result)
-held c = let l : length (entry c .name .octets) ≡ 255 = search needs in enters _ _ (entry c) _ l (c .before .before .before .enter .ensures) (c .wide .ensures)
+held c = let l : length (entry c .name .octets) ≡ 255 = search needs in enters _ _ (entry c) _ l (c .before .before .before .before .enter .ensures) (c .wide .ensures)
 
 -- ---- where the tests are passed: the table is in order, the name well formed, and both lists fit
 abbrev Passed : Type 0
@@ -112,7 +113,7 @@ returns c =
     let n = entry k .number in
     let f = held k .earned in
     let e : n ≡ number k = f ∙ sym (lookup-entry (table k) (name k) (begun k .args .limit) (size k) (room k) (λ h. t (f ∙ h))) in
-    (c .refused .ensures ∙ refused-answer n _ e t _ _, (blanked k .zeros ∙ refused-out n _ e t _ (size k), blanked k .noughts ∙ refused-out n _ e t _ (room k)))
+    (replies (table k) (c .refused .ensures ∙ refused-answer n _ e t _ _) (held k .placed), (blanked k .zeros ∙ refused-out n _ e t _ (size k), blanked k .noughts ∙ refused-out n _ e t _ (room k)))
 
 is-misfit-requires : tie.Need-is-misfit-requires
 is-misfit-requires c κs = search needs
@@ -132,7 +133,7 @@ returns-2 c =
     let k = m .before .before in
     let o = sym (held k .earned) ∙ m .before .if1 .left in
     let e = sym (lookup-misfit (table k) (name k) (begun k .args .limit) (size k) (room k) o (sym (misfit-is m) ∙ c .before .if2 .taken)) in
-    (c .refused2 .ensures ∙ refused-answer 5 _ e (not-nought 4) _ _, (blanked k .zeros ∙ refused-out 5 _ e (not-nought 4) _ (size k), blanked k .noughts ∙ refused-out 5 _ e (not-nought 4) _ (room k)))
+    (replies (table k) (c .refused2 .ensures ∙ refused-answer 5 _ e (not-nought 4) _ _) (held k .placed), (blanked k .zeros ∙ refused-out 5 _ e (not-nought 4) _ (size k), blanked k .noughts ∙ refused-out 5 _ e (not-nought 4) _ (room k)))
 
 array-share-prefix-octets : tie.Need-array-share-prefix-octets
 array-share-prefix-octets c = held (taken c) .fits
@@ -165,7 +166,7 @@ returns-3 c =
     let o = sym (held k .earned) ∙ accepted p in
     let n = misfit-not (size k) (room k) (fitting p) .1 in
     let e = rw (held k .part (accepted p), blanked k .long) at (l .look .ensures) in (
-      e .0 ∙ lookup-answered (table k) (name k) (a .limit) (size k) (room k) o (small k) (fitting p) n,
+      replies (table k) (e .0 ∙ lookup-answered (table k) (name k) (a .limit) (size k) (room k) o (small k) (fitting p) n) (held k .placed),
       (
         e .1 .0 ∙ lookup-written (table k) (name k) (a .limit) (size k) (room k) o (small k) (fitting p) n,
         e .1 .1 ∙ lookup-lasting (table k) (name k) (a .limit) (size k) (room k) o (small k) (fitting p) n,

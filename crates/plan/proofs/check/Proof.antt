@@ -1,43 +1,62 @@
--- `plan::check` meets its contract.
-use borrow.Author.Needs.{needs}
+-- `plan::check` meets its contract: each way out is a number, and the place that goes with it.
+use Prim.Native.Nat.{ℕ}
+use mathlib.Core.Path.{_≡_, ap, _∙_, sym}
+use mathlib.Core.List.{List}
 use native.Mathlib.Omega.{arith}
-use mathlib.Core.Path.{_∙_}
-use Rattle.plan.proofs.OrderLaws.{no-fault, number-length, number-many, number-fault, number-repeat, number-none, answer-number}
+use borrow.Author.Needs.{needs}
+use Rattle.plan.specs.Layout.{recordAt}
+use Rattle.plan.specs.Check.{faultOf, firstFault, checkOf}
+use Rattle.plan.specs.Faults.{noPlace, faultIn}
+use Rattle.plan.proofs.OrderLaws.{no-fault, number-length, number-many, number-fault, number-repeat, number-none}
+use Rattle.plan.proofs.PlaceLaws.{fault-two, fault-three, fault-other, replied}
 use Rattle.plan.proofs.check.Statement.{statement}
 use Rattle.plan.proofs.check.Tie as tie
 
 count-requires : tie.Need-count-requires
 count-requires c κs = search needs
 
-refused-requires : tie.Need-refused-requires
-refused-requires c κs = search needs
+told-requires : tie.Need-told-requires
+told-requires c κs = search needs
 
 returns : tie.Need-returns
 returns c =
     let t = c .before .before .before .before .args .table .now in
-    c .refused .ensures ∙ answer-number t 1 (number-length t (c .before .if1 .taken))
+    let e = number-length t (c .before .if1 .taken) in
+    c .told .ensures ∙ replied t 1 0 0 e (fault-other t (λ h. omega arith) (λ h. omega arith))
 
-refused-requires-2 : tie.Need-refused-requires-2
-refused-requires-2 c κs = search needs
+told-requires-2 : tie.Need-told-requires-2
+told-requires-2 c κs = search needs
 
 returns-2 : tie.Need-returns-2
 returns-2 c =
     let t = c .before .before .before .before .before .args .table .now in
     let n = c .before .before .before .count .ensures in
-    c .refused2 .ensures ∙ answer-number t 1 (number-many t (c .before .before .if1 .left) (omega arith))
+    let e = number-many t (c .before .before .if1 .left) (omega arith) in
+    c .told2 .ensures ∙ replied t 1 0 0 e (fault-other t (λ h. omega arith) (λ h. omega arith))
 
 first-fault-requires : tie.Need-first-fault-requires
 first-fault-requires c κs = search needs
 
-refused-requires-3 : tie.Need-refused-requires-3
-refused-requires-3 c κs = search needs
+cast-told : tie.Need-cast-told
+cast-told c = search needs
+
+row-requires : tie.Need-row-requires
+row-requires c κs = search needs
+
+first-field-requires : tie.Need-first-field-requires
+first-field-requires c κs = search needs
+
+told-requires-3 : tie.Need-told-requires-3
+told-requires-3 c κs = search needs
 
 returns-3 : tie.Need-returns-3
 returns-3 c =
-    let t = c .before .before .before .before .before .before .before .args .table .now in
-    let n = c .before .before .before .before .before .count .ensures in
-    let f = c .before .before .first-fault .ensures in
-    c .refused3 .ensures ∙ answer-number t 2 (number-fault t (c .before .before .before .before .if1 .left) (omega arith) (omega arith))
+    let t = c .before .before .before .before .before .before .before .before .before .args .table .now in
+    let n = c .before .before .before .before .before .before .before .count .ensures in
+    let i = c .before .before .before .before .first-fault .ensures in
+    let f = c .before .first-field .ensures ∙ ap faultOf (c .before .before .row .ensures .0) in
+    let e = number-fault t (c .before .before .before .before .before .before .if1 .left) (omega arith) (omega arith) in
+    c .told3 .ensures ∙ replied t 2 _ _ e (fault-two t e ∙ λ j. record { index = sym i j; field = (ap (λ (k : ℕ). faultOf (recordAt t k)) (sym i) ∙ sym f) j })
 
 first-repeat-requires : tie.Need-first-repeat-requires
 first-repeat-requires c κs =
@@ -45,8 +64,11 @@ first-repeat-requires c κs =
     let n = c .before .before .before .before .count .ensures in
     (no-fault t (omega (arith, n, c .before .first-fault .ensures)), omega (arith, n, c .before .before .if2 .left))
 
-refused-requires-4 : tie.Need-refused-requires-4
-refused-requires-4 c κs = search needs
+cast-told-2 : tie.Need-cast-told-2
+cast-told-2 c = search needs
+
+told-requires-4 : tie.Need-told-requires-4
+told-requires-4 c κs = search needs
 
 returns-4 : tie.Need-returns-4
 returns-4 c =
@@ -54,29 +76,39 @@ returns-4 c =
     let n = c .before .before .before .before .before .before .before .count .ensures in
     let f = c .before .before .before .before .first-fault .ensures in
     let g = c .before .before .first-repeat .ensures in
-    c .refused4 .ensures ∙ answer-number t 3 (number-repeat t (c .before .before .before .before .before .before .if1 .left) (omega arith) (omega arith) (omega arith))
+    let e = number-repeat t (c .before .before .before .before .before .before .if1 .left) (omega arith) (omega arith) (omega arith) in
+    c .told4 .ensures ∙ replied t 3 _ 4 e (fault-three t e ∙ λ j. record { index = sym g j; field = 4 })
+
+told-requires-5 : tie.Need-told-requires-5
+told-requires-5 c κs = search needs
 
 returns-5 : tie.Need-returns-5
 returns-5 c =
-    let t = c .before .before .before .before .before .before .before .before .args .table .now in
-    let n = c .before .before .before .before .before .before .count .ensures in
-    let f = c .before .before .before .first-fault .ensures in
-    let g = c .before .first-repeat .ensures in
-    answer-number t 0 (number-none t (c .before .before .before .before .before .if1 .left) (omega arith) (omega arith) (omega arith))
+    let t = c .before .before .before .before .before .before .before .before .before .args .table .now in
+    let n = c .before .before .before .before .before .before .before .count .ensures in
+    let f = c .before .before .before .before .first-fault .ensures in
+    let g = c .before .before .first-repeat .ensures in
+    let e = number-none t (c .before .before .before .before .before .before .if1 .left) (omega arith) (omega arith) (omega arith) in
+    c .told5 .ensures ∙ replied t 0 0 0 e (fault-other t (λ h. omega arith) (λ h. omega arith))
 
 pub check-spec : {M : Type 1} → statement M
 check-spec =
     tie.close
     (tie.spec
     count-requires
-    refused-requires
+    told-requires
     returns
-    refused-requires-2
+    told-requires-2
     returns-2
     first-fault-requires
-    refused-requires-3
+    cast-told
+    row-requires
+    first-field-requires
+    told-requires-3
     returns-3
     first-repeat-requires
-    refused-requires-4
+    cast-told-2
+    told-requires-4
     returns-4
+    told-requires-5
     returns-5)

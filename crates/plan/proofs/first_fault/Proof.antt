@@ -31,14 +31,14 @@ loop-holds c =
 row-requires : tie.Need-row-requires Inv-loop μ-loop
 row-requires c κs = omega arith
 
-fault-requires : tie.Need-fault-requires Inv-loop μ-loop
-fault-requires c κs = c .row .ensures .1
+first-field-requires : tie.Need-first-field-requires Inv-loop μ-loop
+first-field-requires c κs = c .row .ensures .1
 
 returns : tie.Need-returns Inv-loop μ-loop
 returns c =
     let t = c .before .before .before .before .before .before .before .args .table .now in
     let l = c .before .before .before .before .loop in
-    let f : faulty t (l .i) ≡ true = faulty-is t (l .i) (λ h. c .if1 .taken (c .before .fault .ensures ∙ ap faultOf (c .before .before .row .ensures .0) ∙ h)) in
+    let f : faulty t (l .i) ≡ true = faulty-is t (l .i) (omega (arith, c .if1 .taken, c .before .first-field .ensures ∙ ap faultOf (c .before .before .row .ensures .0))) in
     sym (first-here (faulty t) (l .i) (c .before .before .before .before .before .count .result) (omega arith) f) ∙ l .inv .2
 
 add-i : tie.Need-add-i Inv-loop μ-loop
@@ -51,7 +51,7 @@ loop-again : tie.Need-loop-again Inv-loop μ-loop
 loop-again c =
     let t = c .before .before .before .before .before .before .before .args .table .now in
     let l = c .before .before .before .before .loop in
-    let f : faulty t (l .i) ≡ false = faulty-not t (l .i) (sym (c .before .fault .ensures ∙ ap faultOf (c .before .before .row .ensures .0)) ∙ c .if1 .left) in
+    let f : faulty t (l .i) ≡ false = faulty-not t (l .i) (omega (arith, c .if1 .left, c .before .first-field .ensures ∙ ap faultOf (c .before .before .row .ensures .0))) in
     (omega arith, l .inv .1, sym (first-on (faulty t) (l .i) (c .before .before .before .before .before .count .result) (omega arith) f) ∙ l .inv .2)
 
 returns-2 : tie.Need-returns-2 Inv-loop μ-loop
@@ -70,7 +70,7 @@ first-fault-spec =
     count-requires
     loop-holds
     row-requires
-    fault-requires
+    first-field-requires
     returns
     add-i
     loop-less

@@ -6,8 +6,8 @@ use mathlib.Core.Bool.{Bool, _||_}
 use lib.ListN.{length, drop}
 use mathlib.Core.Logic.{⊎-elim}
 use Rattle.octets.proofs.BoolLaws.{or-true, or-false}
-use Rattle.plan.specs.Marks.{among}
-use Rattle.plan.proofs.MarkLaws.{among-on, among-here, among-end}
+use Rattle.octets.specs.Octets.{among}
+use Rattle.octets.proofs.AmongLaws.{among-on, among-here, among-end}
 use Rattle.plan.proofs.has_mark.Statement.{statement}
 use Rattle.plan.proofs.has_mark.Tie as tie
 
