@@ -1,11 +1,11 @@
 -- Demand 1: each public function asks nothing of its caller and promises just what its definition says, for every input; what refuses leaves its
 -- output and its figures zero. In a contract κs are the lifetimes of a call, `now x` is what the reference x shows, and `end` and `figured` are the
 -- lent output and figures as the call leaves them.
-use Prim.Native.Nat.{ℕ, zero, suc, _<_, min}
+use Prim.Native.Nat.{ℕ, zero, suc, _+_, _<_, min}
 use mathlib.Core.Path.{_≡_, refl, _∙_, sym}
 use mathlib.Core.Logic.{_↔_}
 use mathlib.Core.Bool.{Bool, true, false}
-use mathlib.Core.List.{List}
+use mathlib.Core.List.{List, []}
 use lib.Dec.{ltb, eqb}
 use lib.ListN.{length, drop}
 use borrow.Author.Tests.{eqb-true, eqb-false, ltb-true, ltb-false}
@@ -15,7 +15,8 @@ use Rattle.octets.specs.Octets.{blank, same, flat}
 use Rattle.octets.specs.Zeros.{isBlank}
 use Rattle.octets.specs.Numbers.{octetsOf}
 use Rattle.octets.specs.Answers.{refusal, answerBy, outBy}
-use Rattle.octets.proofs.AnswerLaws.{refused-out}
+use Rattle.octets.proofs.AnswerLaws.{refused-out, by-number}
+use Rattle.octets.proofs.SmallLaws.{getD-blank}
 use Rattle.octets.proofs.equal.Reads as equal
 use Rattle.octets.specs.declared.Answer.{Answer}
 use Rattle.octets.proofs.refused.Reads as refused
@@ -58,6 +59,8 @@ use Rattle.draft.proofs.read.Reads as draft-read
 use Rattle.draft.proofs.write.Reads as draft-write
 use Rattle.plan.specs.Layout.{countOf}
 use Rattle.plan.specs.Check.{checkOf, checkAnswer, InOrder}
+use Rattle.plan.specs.Faults.{faultIn, replying, Placed}
+use Rattle.plan.specs.declared.Reply.{Reply}
 use Rattle.plan.specs.Part.{IsPart, emptyPart, ownerPart}
 use Rattle.plan.specs.Graph.{graphOf}
 use Rattle.plan.proofs.PartLaws.{part-refused, part-past}
@@ -71,7 +74,8 @@ use Rattle.reverse.proofs.lookup.Reads as reverse
 use Rattle.collapse.specs.Fold.{foldOf}
 use Rattle.collapse.specs.Collapse.{numberOf, collapseAnswer, collapseOut}
 use Rattle.collapse.proofs.collapse.Reads as collapse
-use Rattle.a6plan.specs.Exports.{partAnswer, valueOctets, valueIn, exportedReadNumber, exportedWriteNumber, exportedNumber, exportedFigures}
+use Rattle.a6plan.specs.Exports.{ofName, ofPart, ofCheck, ofTable, exportedNumber, exportedFigures, placedFigures, faultFigures, replyFigures, partAnswer, valueOctets, valueIn, exportedReadNumber, exportedWriteNumber}
+use Rattle.a6plan.proofs.ExportLaws.{exported-fit, placed-all, placed-none}
 use Rattle.a6plan.proofs.a6plan_standard.Reads as a6plan-standard
 use Rattle.a6plan.proofs.a6plan_read.Reads as a6plan-read
 use Rattle.a6plan.proofs.a6plan_write.Reads as a6plan-write
@@ -82,7 +86,8 @@ use Rattle.a6plan.proofs.a6plan_owner.Reads as a6plan-owner
 use Rattle.a6plan.proofs.a6plan_lookup.Reads as a6plan-lookup
 use Rattle.a6plan.proofs.a6plan_reverse.Reads as a6plan-reverse
 use Rattle.a6plan.proofs.a6plan_collapse.Reads as a6plan-collapse
-use Rattle.demands.specs.Demand1.{Promises, Cleared}
+use Rattle.demands.specs.Demand1.{Promises, Cleared, Noughts}
+use Rattle.demands.proofs.Places.{lookup-placed, reverse-placed, collapse-placed}
 
 -- the contract, computed, is the claim itself
 plainly : {P : Type 0} → Unit {0} × (P ↔ P)
@@ -167,7 +172,8 @@ pub draft-draft-write : (κs : Lfts 1) (value : Value) (out end : RefT (List ℕ
 draft-draft-write κs value out end r = plainly
 
 -- ---- plan
-pub plan-check : (κs : Lfts 1) (table : RefT (List ℕ)) (r : Answer) → Promises (check.Asked κs) (check.Learnt κs) (table, tt) r (table, tt) (r ≡ checkAnswer (now table))
+pub plan-check : (κs : Lfts 1) (table : RefT (List ℕ)) (r : Reply)
+    → Promises (check.Asked κs) (check.Learnt κs) (table, tt) r (table, tt) (r ≡ replying (now table) (checkAnswer (now table)))
 plan-check κs table r = plainly
 
 pub plan-owner : (κs : Lfts 1) (table r : RefT (List ℕ)) (index : ℕ)
@@ -175,27 +181,27 @@ pub plan-owner : (κs : Lfts 1) (table r : RefT (List ℕ)) (index : ℕ)
 plan-owner κs table r index = plainly
 
 -- ---- forward, reverse and collapse
-pub forward-lookup : (κs : Lfts 4) (table name out end ttls left : RefT (List ℕ)) (limit : ℕ) (r : Answer)
+pub forward-lookup : (κs : Lfts 4) (table name out end ttls left : RefT (List ℕ)) (limit : ℕ) (r : Reply)
     → Promises (lookup.Asked κs) (lookup.Learnt κs) (table, (name, (limit, (out, (ttls, tt))))) r (table, (name, (limit, (end, (left, tt)))))
-    ((r ≡ lookupAnswer (now table) (now name) limit (length (now out)) (length (now ttls)))
+    ((r ≡ replying (now table) (lookupAnswer (now table) (now name) limit (length (now out)) (length (now ttls))))
     × ((now end ≡ lookupOut (now table) (now name) limit (length (now out)) (length (now ttls)))
     × (now left ≡ lookupTtls (now table) (now name) limit (length (now out)) (length (now ttls)))))
 forward-lookup κs table name out end ttls left limit r = plainly
 
-pub reverse-lookup : (κs : Lfts 3) (table address out end : RefT (List ℕ)) (limit : ℕ) (r : Answer)
+pub reverse-lookup : (κs : Lfts 3) (table address out end : RefT (List ℕ)) (limit : ℕ) (r : Reply)
     → Promises (reverse.Asked κs) (reverse.Learnt κs) (table, (address, (limit, (out, tt)))) r (table, (address, (limit, (end, tt))))
-    ((r ≡ reverseAnswer (now table) (now address) limit (length (now out))) × (now end ≡ reverseOut (now table) (now address) limit (length (now out))))
+    ((r ≡ replying (now table) (reverseAnswer (now table) (now address) limit (length (now out)))) × (now end ≡ reverseOut (now table) (now address) limit (length (now out))))
 reverse-lookup κs table address out end limit r = plainly
 
-pub collapse-collapse : (κs : Lfts 3) (table name out end : RefT (List ℕ)) (r : Answer)
+pub collapse-collapse : (κs : Lfts 3) (table name out end : RefT (List ℕ)) (r : Reply)
     → Promises (collapse.Asked κs) (collapse.Learnt κs) (table, (name, (out, tt))) r (table, (name, (end, tt)))
-    ((r ≡ collapseAnswer (now table) (now name) (length (now out))) × (now end ≡ collapseOut (now table) (now name) (length (now out))))
+    ((r ≡ replying (now table) (collapseAnswer (now table) (now name) (length (now out)))) × (now end ≡ collapseOut (now table) (now name) (length (now out))))
 collapse-collapse κs table name out end r = plainly
 
 -- ---- the ten exports: the number, the output and the figures
 pub export-standard : (κs : Lfts 3) (name out end figures figured : RefT (List ℕ)) (r : ℕ)
     → Promises (a6plan-standard.Asked κs) (a6plan-standard.Learnt κs) (name, (out, (figures, tt))) r (name, (end, (figured, tt)))
-    ((r ≡ exportedNumber (length (now figures)) (standardNumber (now name) (length (now out))))
+    ((r ≡ exportedNumber ofName (length (now figures)) (standardNumber (now name) (length (now out))))
     × ((now end ≡ outBy r (standardOf (now name)) (length (now out))) × (now figured ≡ exportedFigures r (standardAnswer (now name) (length (now out))) (length (now figures)))))
 export-standard κs name out end figures figured r = plainly
 
@@ -223,34 +229,36 @@ pub export-write-1998 : (κs : Lfts 3) (value out end figures figured : RefT (Li
     × (now figured ≡ exportedFigures r (draftAnswer (valueIn (now value)) (length (now out))) (length (now figures)))))
 export-write-1998 κs value out end figures figured r = plainly
 
-pub export-check : (κs : Lfts 1) (table : RefT (List ℕ)) (r : ℕ) → Promises (a6plan-check.Asked κs) (a6plan-check.Learnt κs) (table, tt) r (table, tt) (r ≡ checkOf (now table))
-export-check κs table r = plainly
+pub export-check : (κs : Lfts 2) (table figures figured : RefT (List ℕ)) (r : ℕ)
+    → Promises (a6plan-check.Asked κs) (a6plan-check.Learnt κs) (table, (figures, tt)) r (table, (figured, tt))
+    ((r ≡ exportedNumber ofCheck (length (now figures)) (checkOf (now table))) × (now figured ≡ placedFigures (faultFigures (faultIn (now table))) (length (now figures))))
+export-check κs table figures figured r = plainly
 
 pub export-owner : (κs : Lfts 2) (table : RefT (List ℕ)) (index : ℕ) (figures figured : RefT (List ℕ)) (r : ℕ)
     → Promises (a6plan-owner.Asked κs) (a6plan-owner.Learnt κs) (table, (index, (figures, tt))) r (table, (index, (figured, tt)))
-    ((r ≡ exportedNumber (length (now figures)) 0) × (now figured ≡ exportedFigures r (partAnswer (ownerPart (now table) index)) (length (now figures))))
+    ((r ≡ exportedNumber ofPart (length (now figures)) 0) × (now figured ≡ exportedFigures r (partAnswer (ownerPart (now table) index)) (length (now figures))))
 export-owner κs table index figures figured r = plainly
 
 pub export-lookup : (κs : Lfts 5) (table name : RefT (List ℕ)) (limit : ℕ) (out end ttls left figures figured : RefT (List ℕ)) (r : ℕ)
     → Promises (a6plan-lookup.Asked κs) (a6plan-lookup.Learnt κs) (table, (name, (limit, (out, (ttls, (figures, tt)))))) r (table, (name, (limit, (end, (left, (figured, tt))))))
-    ((r ≡ exportedNumber (length (now figures)) (lookupNumber (now table) (now name) limit (length (now out)) (length (now ttls))))
+    ((r ≡ exportedNumber ofTable (length (now figures)) (lookupNumber (now table) (now name) limit (length (now out)) (length (now ttls))))
     × ((now end ≡ outputOf (graphOf (now table)) (now name) r (length (now out)))
     × ((now left ≡ livesOf (graphOf (now table)) (now name) r (length (now ttls)))
-    × (now figured ≡ exportedFigures r (lookupAnswer (now table) (now name) limit (length (now out)) (length (now ttls))) (length (now figures))))))
+    × (now figured ≡ placedFigures (replyFigures (replying (now table) (lookupAnswer (now table) (now name) limit (length (now out)) (length (now ttls))))) (length (now figures))))))
 export-lookup κs table name limit out end ttls left figures figured r = plainly
 
 pub export-reverse : (κs : Lfts 4) (table address : RefT (List ℕ)) (limit : ℕ) (out end figures figured : RefT (List ℕ)) (r : ℕ)
     → Promises (a6plan-reverse.Asked κs) (a6plan-reverse.Learnt κs) (table, (address, (limit, (out, (figures, tt))))) r (table, (address, (limit, (end, (figured, tt)))))
-    ((r ≡ exportedNumber (length (now figures)) (endNumber (endOf (now table) (now address) limit (length (now out)))))
+    ((r ≡ exportedNumber ofTable (length (now figures)) (endNumber (endOf (now table) (now address) limit (length (now out)))))
     × ((now end ≡ outBy r (endName (endOf (now table) (now address) limit (length (now out)))) (length (now out)))
-    × (now figured ≡ exportedFigures r (reverseAnswer (now table) (now address) limit (length (now out))) (length (now figures)))))
+    × (now figured ≡ placedFigures (replyFigures (replying (now table) (reverseAnswer (now table) (now address) limit (length (now out))))) (length (now figures)))))
 export-reverse κs table address limit out end figures figured r = plainly
 
 pub export-collapse : (κs : Lfts 4) (table name : RefT (List ℕ)) (out end figures figured : RefT (List ℕ)) (r : ℕ)
     → Promises (a6plan-collapse.Asked κs) (a6plan-collapse.Learnt κs) (table, (name, (out, (figures, tt)))) r (table, (name, (end, (figured, tt))))
-    ((r ≡ exportedNumber (length (now figures)) (numberOf (now table) (now name) (length (now out))))
+    ((r ≡ exportedNumber ofTable (length (now figures)) (numberOf (now table) (now name) (length (now out))))
     × ((now end ≡ outBy r (flat (foldOf (now name) (now table))) (length (now out)))
-    × (now figured ≡ exportedFigures r (collapseAnswer (now table) (now name) (length (now out))) (length (now figures)))))
+    × (now figured ≡ placedFigures (replyFigures (replying (now table) (collapseAnswer (now table) (now name) (length (now out))))) (length (now figures)))))
 export-collapse κs table name out end figures figured r = plainly
 
 -- ---- what refuses leaves nothing
@@ -259,6 +267,9 @@ by-number-clears : (k count work : ℕ) (result : List ℕ) (room : ℕ) → Cle
 unfolding answerBy outBy
 by-number-clears zero count work result room h = absurd (h refl)
 by-number-clears (suc k) count work result room h = (refl, refl, refl)
+
+refused-counts : (k count work : ℕ) → (k ≡ 0 → ⊥) → (answerBy k count work .count ≡ 0) × (answerBy k count work .work ≡ 0)
+refused-counts k count work h = let c = by-number-clears k count work [] 0 (λ e. h (sym (by-number k count work) ∙ e)) in (c .0, c .1)
 
 -- a refused standard form has both figures 0 and its output zero
 pub standard-clears : (name : List ℕ) (room : ℕ) → Cleared (standardAnswer name room) (standardOut name room) room
@@ -309,7 +320,7 @@ reverse-clears t address limit room = by-number-clears _ _ _ _ room
 pub collapse-clears : (t x : List ℕ) (size : ℕ) → Cleared (collapseAnswer t x size) (collapseOut t x size) size
 collapse-clears t x size = by-number-clears _ _ _ _ size
 
--- the check has no figures
+-- the check has neither count nor work
 pub check-clears : (t : List ℕ) → (checkAnswer t .count ≡ 0) × (checkAnswer t .work ≡ 0)
 check-clears t = (refl, refl)
 
@@ -322,7 +333,8 @@ owner-clears t i h = go (eqb (checkOf t) 0) refl (ltb i (countOf t)) refl
     go true e false f = part-past t i (eqb-true (checkOf t) 0 e) (ltb-false i (countOf t) f)
     go true e true f = absurd (h (eqb-true (checkOf t) 0 e, ltb-true i (countOf t) f))
 
--- ---- and so at the C interface: whatever is lent is zero where the number is not 0, also where the figures are not two
+-- ---- and so at the C interface: where the number is not 0 every output that was lent is zero, and so are the figures but index and field, which T-04
+-- adds to 2 and 3
 zeros : (r : ℕ) (result : List ℕ) (room : ℕ) {end : List ℕ} → (r ≡ 0 → ⊥) → end ≡ outBy r result room → end ≡ blank room
 zeros r result room h e = e ∙ sym (refused-out r r refl h result room)
 
@@ -359,20 +371,72 @@ pub export-owner-clears : (κs : Lfts 2) (table : RefT (List ℕ)) (index : ℕ)
     → a6plan-owner.Learnt κs (table, (index, (figures, tt))) r (table, (index, (figured, tt))) → (r ≡ 0 → ⊥) → now figured ≡ blank (length (now figures))
 export-owner-clears κs table index figures figured r l h = zeros r _ _ h (l .1)
 
+-- Of an operation on a table count and work are zero where the number is not 0, and index and field where it is neither 2 nor 3; all four, or however
+-- many were lent, where they are not as many as are wanted.
+module _ (t : List ℕ) (n k count work r : ℕ) (e : r ≡ exportedNumber ofTable n k) {figures : List ℕ} (f : figures ≡ placedFigures (replyFigures (replying t (answerBy k count work))) n) where
+  fitted : n ≡ 4 → (r ≡ k) × (figures ≡ replyFigures (replying t (answerBy k count work)))
+  fitted h = (e ∙ exported-fit ofTable n k h, f ∙ sym (placed-all _ n h))
+
+  misfitted : (n ≡ 4 → ⊥) → figures ≡ blank n
+  misfitted h = f ∙ sym (placed-none _ n h)
+
+  none-at : (n ≡ 4 → ⊥) → (at : ℕ) → Noughts at figures
+  none-at h at = rw (misfitted h) (getD-blank n at, getD-blank n (at + 1))
+
+  by-places : (at : ℕ) → (n ≡ 4 → Noughts at figures) → Noughts at figures
+  by-places at g = go (eqb n 4) refl
+    where
+      go : (b : Bool) → eqb n 4 ≡ b → Noughts at figures
+      go true h = g (eqb-true n 4 h)
+      go false h = none-at (eqb-false n 4 h) at
+
+  counts-none : (r ≡ 0 → ⊥) → Noughts 0 figures
+  counts-none h = by-places 0 (λ w. let p = fitted w in rw (p .1) (refused-counts k count work (λ z. h (p .0 ∙ z))))
+
+  place-none : Placed t k (faultIn t) → (r ≡ 2 → ⊥) → (r ≡ 3 → ⊥) → Noughts 2 figures
+  place-none q g h =
+      by-places 2 (λ w.
+      let p = fitted w in
+      let z = q .other (λ x. g (p .0 ∙ x)) (λ x. h (p .0 ∙ x)) in
+      rw (p .1, z) (refl, refl))
+
+-- of `a6plan_check`, which has no count and no work
+pub export-check-clears : (κs : Lfts 2) (table figures figured : RefT (List ℕ)) (r : ℕ)
+    → a6plan-check.Learnt κs (table, (figures, tt)) r (table, (figured, tt)) → (length (now figures) ≡ 2 → ⊥) → now figured ≡ blank (length (now figures))
+export-check-clears κs table figures figured r l h = l .1 ∙ sym (placed-none _ _ h)
+
 -- of `a6plan_lookup`, both lists
-pub export-lookup-clears : (κs : Lfts 5) (table name : RefT (List ℕ)) (limit : ℕ) (out end ttls left figures figured : RefT (List ℕ)) (r : ℕ)
-    → a6plan-lookup.Learnt κs (table, (name, (limit, (out, (ttls, (figures, tt)))))) r (table, (name, (limit, (end, (left, (figured, tt)))))) → (r ≡ 0 → ⊥)
-    → (now end ≡ blank (length (now out))) × (now left ≡ blank (length (now ttls))) × (now figured ≡ blank (length (now figures)))
-export-lookup-clears κs table name limit out end ttls left figures figured r l h = (zeros r _ _ h (l .1 .0), zeros r _ _ h (l .1 .1 .0), zeros r _ _ h (l .1 .1 .1))
+module _ (κs : Lfts 5) (table name : RefT (List ℕ)) (limit : ℕ) (out end ttls left figures figured : RefT (List ℕ)) (r : ℕ)
+    (l : a6plan-lookup.Learnt κs (table, (name, (limit, (out, (ttls, (figures, tt)))))) r (table, (name, (limit, (end, (left, (figured, tt))))))) where
+  pub export-lookup-clears : (r ≡ 0 → ⊥) → (now end ≡ blank (length (now out))) × (now left ≡ blank (length (now ttls))) × Noughts 0 (now figured)
+  export-lookup-clears h = (zeros r _ _ h (l .1 .0), zeros r _ _ h (l .1 .1 .0), counts-none (now table) _ _ _ _ r (l .0) (l .1 .1 .1) h)
+
+  pub export-lookup-unplaced : (r ≡ 2 → ⊥) → (r ≡ 3 → ⊥) → Noughts 2 (now figured)
+  export-lookup-unplaced = place-none (now table) _ _ _ _ r (l .0) (l .1 .1 .1) (lookup-placed (now table) (now name) limit (length (now out)) (length (now ttls)))
+
+  pub export-lookup-misfit : (length (now figures) ≡ 4 → ⊥) → now figured ≡ blank (length (now figures))
+  export-lookup-misfit = misfitted (now table) _ _ _ _ r (l .0) (l .1 .1 .1)
 
 -- of `a6plan_reverse`
-pub export-reverse-clears : (κs : Lfts 4) (table address : RefT (List ℕ)) (limit : ℕ) (out end figures figured : RefT (List ℕ)) (r : ℕ)
-    → a6plan-reverse.Learnt κs (table, (address, (limit, (out, (figures, tt))))) r (table, (address, (limit, (end, (figured, tt))))) → (r ≡ 0 → ⊥)
-    → (now end ≡ blank (length (now out))) × (now figured ≡ blank (length (now figures)))
-export-reverse-clears κs table address limit out end figures figured r l h = (zeros r _ _ h (l .1 .0), zeros r _ _ h (l .1 .1))
+module _ (κs : Lfts 4) (table address : RefT (List ℕ)) (limit : ℕ) (out end figures figured : RefT (List ℕ)) (r : ℕ)
+    (l : a6plan-reverse.Learnt κs (table, (address, (limit, (out, (figures, tt))))) r (table, (address, (limit, (end, (figured, tt)))))) where
+  pub export-reverse-clears : (r ≡ 0 → ⊥) → (now end ≡ blank (length (now out))) × Noughts 0 (now figured)
+  export-reverse-clears h = (zeros r _ _ h (l .1 .0), counts-none (now table) _ _ _ _ r (l .0) (l .1 .1) h)
+
+  pub export-reverse-unplaced : (r ≡ 2 → ⊥) → (r ≡ 3 → ⊥) → Noughts 2 (now figured)
+  export-reverse-unplaced = place-none (now table) _ _ _ _ r (l .0) (l .1 .1) (reverse-placed (now table) (now address) limit (length (now out)))
+
+  pub export-reverse-misfit : (length (now figures) ≡ 4 → ⊥) → now figured ≡ blank (length (now figures))
+  export-reverse-misfit = misfitted (now table) _ _ _ _ r (l .0) (l .1 .1)
 
 -- of `a6plan_collapse`
-pub export-collapse-clears : (κs : Lfts 4) (table name : RefT (List ℕ)) (out end figures figured : RefT (List ℕ)) (r : ℕ)
-    → a6plan-collapse.Learnt κs (table, (name, (out, (figures, tt)))) r (table, (name, (end, (figured, tt)))) → (r ≡ 0 → ⊥)
-    → (now end ≡ blank (length (now out))) × (now figured ≡ blank (length (now figures)))
-export-collapse-clears κs table name out end figures figured r l h = (zeros r _ _ h (l .1 .0), zeros r _ _ h (l .1 .1))
+module _ (κs : Lfts 4) (table name : RefT (List ℕ)) (out end figures figured : RefT (List ℕ)) (r : ℕ)
+    (l : a6plan-collapse.Learnt κs (table, (name, (out, (figures, tt)))) r (table, (name, (end, (figured, tt))))) where
+  pub export-collapse-clears : (r ≡ 0 → ⊥) → (now end ≡ blank (length (now out))) × Noughts 0 (now figured)
+  export-collapse-clears h = (zeros r _ _ h (l .1 .0), counts-none (now table) _ _ _ _ r (l .0) (l .1 .1) h)
+
+  pub export-collapse-unplaced : (r ≡ 2 → ⊥) → (r ≡ 3 → ⊥) → Noughts 2 (now figured)
+  export-collapse-unplaced = place-none (now table) _ _ _ _ r (l .0) (l .1 .1) (collapse-placed (now table) (now name) (length (now out)))
+
+  pub export-collapse-misfit : (length (now figures) ≡ 4 → ⊥) → now figured ≡ blank (length (now figures))
+  export-collapse-misfit = misfitted (now table) _ _ _ _ r (l .0) (l .1 .1)

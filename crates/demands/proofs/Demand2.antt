@@ -14,6 +14,7 @@ use Rattle.octets.specs.Octets.{blank, Small}
 use Rattle.octets.specs.Answers.{answering}
 use Rattle.octets.proofs.AnswerLaws.{by-number}
 use Rattle.octets.specs.declared.Answer.{Answer}
+use Rattle.plan.specs.declared.Reply.{Reply}
 use Rattle.labels.specs.Scan.{wellFormed}
 use Rattle.chains.specs.Lists.{In}
 use Rattle.chains.specs.Lifetimes.{Source, Lifetime}
@@ -120,20 +121,20 @@ module _ {t name : List ℕ} {limit room : ℕ} {r : Answer} {out ttls : List �
 
 -- A call of the running `lookup` with input that earns none of 1 to 5, by what its caller learns: its answer and its two lists, as it leaves them,
 -- are as the demand says.
-module _ (κs : Lfts 4) (table name out end ttls ends : RefT (List ℕ)) (limit : ℕ) (r : Answer)
+module _ (κs : Lfts 4) (table name out end ttls ends : RefT (List ℕ)) (limit : ℕ) (r : Reply)
     (learnt : forward.Learnt κs (table, (name, (limit, (out, (ttls, tt))))) r (table, (name, (limit, (end, (ends, tt))))))
     (o : InOrder (now table)) (w : wellFormed (now name) ≡ true) (e : length (now out) ≡ length (now ttls) * 16) where
   -- of a table of octets: a caller's proof has this of each slice of octets that it lends
-  pub lookup-learnt : Small (now table) → Demanded (now table) (now name) limit (length (now ttls)) r (now end) (now ends)
+  pub lookup-learnt : Small (now table) → Demanded (now table) (now name) limit (length (now ttls)) (r .answer) (now end) (now ends)
   lookup-learnt s =
       let room = length (now ttls) in
-      let h : r ≡ lookupAnswer (now table) (now name) limit (room * 16) room = learnt .0 ∙ rw e in
+      let h : r .answer ≡ lookupAnswer (now table) (now name) limit (room * 16) room = ap (λ (v : Reply). v .answer) (learnt .0) ∙ rw e in
       let k : now end ≡ lookupOut (now table) (now name) limit (room * 16) room = learnt .1 .0 ∙ rw e in
       let l : now ends ≡ lookupTtls (now table) (now name) limit (room * 16) room = learnt .1 .1 ∙ rw e in
       rw (h, k, l) (lookup (now table) (now name) limit room o s w)
 
   -- and of any call: the types of its arguments give that the table shows octets (`slices-octets`, proofs/Owned.antt)
-  pub lookup-running : Ownable lookup-signature κs (table, (name, (limit, (out, (ttls, tt))))) → Demanded (now table) (now name) limit (length (now ttls)) r (now end) (now ends)
+  pub lookup-running : Ownable lookup-signature κs (table, (name, (limit, (out, (ttls, tt))))) → Demanded (now table) (now name) limit (length (now ttls)) (r .answer) (now end) (now ends)
   lookup-running owned = lookup-learnt (slices-octets 2 [] (later (lookup-signature .params)) (lookup-signature .result) κs (table, (name, (limit, (out, (ttls, tt))))) owned .0)
 
 -- TTLs change nothing else: tables in order that differ in TTLs alone give the same number, figures and addresses for every call
@@ -177,12 +178,12 @@ module _ {t address : List ℕ} {limit : ℕ} {r : Answer} {out : List ℕ} (d :
 
 -- A call of the running `lookup` of reverse names with input that earns none of 1 to 5, by what its caller learns: its answer and its output, as it
 -- leaves it, are as the demand says. Nothing of the octets of a slice is needed.
-pub reverse-running : (κs : Lfts 3) (table address out end : RefT (List ℕ)) (limit : ℕ) (r : Answer)
+pub reverse-running : (κs : Lfts 3) (table address out end : RefT (List ℕ)) (limit : ℕ) (r : Reply)
     → reversed.Learnt κs (table, (address, (limit, (out, tt)))) r (table, (address, (limit, (end, tt))))
     → InOrder (now table) → length (now address) ≡ addressSize → length (now out) ≡ nameRoom
-    → ReverseIs (now table) (now address) limit r (now end)
+    → ReverseIs (now table) (now address) limit (r .answer) (now end)
 reverse-running κs table address out end limit r learnt o l e =
-    let h : r ≡ reverseAnswer (now table) (now address) limit nameRoom = learnt .0 ∙ rw e in
+    let h : r .answer ≡ reverseAnswer (now table) (now address) limit nameRoom = ap (λ (v : Reply). v .answer) (learnt .0) ∙ rw e in
     let k : now end ≡ reverseOut (now table) (now address) limit nameRoom = learnt .1 ∙ rw e in
     rw (h, k) (reverse (now table) (now address) limit o l)
 

@@ -5,7 +5,7 @@ use mathlib.Core.List.{List}
 use lib.ListN.{length}
 use contract.Lifetimes.{Lfts}
 use denote.Ref.{RefT, now}
-use Rattle.octets.specs.declared.Answer.{Answer}
+use Rattle.plan.specs.declared.Reply.{Reply}
 use Rattle.collapse.specs.Demand3.{gives, Demand3}
 use Rattle.collapse.proofs.collapse.Reads as collapse
 use Rattle.collapse.proofs.Contract.{learnt}
@@ -15,9 +15,9 @@ use Rattle.collapse.proofs.Demanded.{demand3}
 pub kept : Demand3
 kept = demand3
 
--- what a caller of the running `collapse` learns is what the demand says that a call gives
-pub running : (κs : Lfts 3) (table name out end : RefT (List ℕ)) (r : Answer)
+-- what a caller of the running `collapse` learns of its answer and its output is what the demand says that a call gives
+pub running : (κs : Lfts 3) (table name out end : RefT (List ℕ)) (r : Reply)
     → collapse.Learnt κs (table, (name, (out, tt))) r (table, (name, (end, tt)))
-    → (r, now end) ≡ gives (now table) (record { name = now name; size = length (now out) })
+    → (r .answer, now end) ≡ gives (now table) (record { name = now name; size = length (now out) })
 unfolding gives
 running κs table name out end r h = learnt κs table name out end r h

@@ -1,8 +1,9 @@
 -- The words of demand 1 (01, What comes back): a contract that asks nothing and says just one thing, and a refusal that leaves nothing.
-use Prim.Native.Nat.{ℕ}
+use Prim.Native.Nat.{ℕ, _+_}
 use mathlib.Core.Path.{_≡_}
 use mathlib.Core.List.{List}
 use mathlib.Core.Logic.{_↔_}
+use lib.ListN.{getD}
 use Rattle.octets.specs.Octets.{blank}
 use Rattle.octets.specs.declared.Answer.{Answer}
 
@@ -14,3 +15,7 @@ Promises asked learnt a r x claim = asked a × (learnt a r x ↔ claim)
 -- an answer whose number is not 0 has both figures 0, and the output, or another list, of `size` places is all zero
 abbrev pub Cleared : Answer → List ℕ → ℕ → Type 0
 Cleared a out size = (a .number ≡ 0 → ⊥) → (a .count ≡ 0) × (a .work ≡ 0) × (out ≡ blank size)
+
+-- at the C interface: the figure at a place and the one after it are 0
+abbrev pub Noughts : ℕ → List ℕ → Type 0
+Noughts at figures = (getD figures at 0 ≡ 0) × (getD figures (at + 1) 0 ≡ 0)

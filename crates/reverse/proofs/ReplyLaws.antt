@@ -10,7 +10,7 @@ use native.Mathlib.Nat.{zero-add}
 use native.Mathlib.Omega.{arith}
 use borrow.Author.Tests.{eq-eqb, ne-eqb, eqb-true, ltb-false, not-false}
 use Rattle.octets.specs.Octets.{blank, Small}
-use Rattle.octets.specs.Answers.{answering, refusal, answerBy, outBy}
+use Rattle.octets.specs.Answers.{orElse, answering, refusal, answerBy, outBy}
 use Rattle.octets.proofs.AnswerLaws.{earns-zero, else-zero, else-kept, else-later}
 use Rattle.names.specs.Standard.{Unit, label, bit, unitsOf, bitLabel, encodeFrom, encode}
 use Rattle.names.specs.Merge.{Begins, labelsAt}
@@ -21,7 +21,7 @@ use Rattle.rewriting.specs.Rewrite.{longRun, tooLarge, rewriteOf}
 use Rattle.reverse.specs.Walk.{startOf, none, due, dueOf, End, refused, ended, walkOf}
 use Rattle.rewriting.specs.Spots.{unitsAt, Standing}
 use Rattle.rewriting.specs.Splice.{fitLength, fitOctets, splicedLength, splicedOut}
-use Rattle.reverse.specs.Answers.{rulesOf, earlyNumber, endOf, answerFor, outFor, reverseAnswer, reverseOut}
+use Rattle.reverse.specs.Answers.{rulesOf, earlyNumber, endOf, endNumber, answerFor, outFor, reverseAnswer, reverseOut}
 use Rattle.reverse.specs.Choice.{dueFor, Chosen}
 use Rattle.reverse.specs.declared.Best.{Best}
 use Rattle.rewriting.proofs.BeneathLaws.{octets-back}
@@ -210,3 +210,12 @@ module _ (t address : List ℕ) (limit room : ℕ) where
   pub late : checkOf t ≡ 0 → length address ≡ 16 → room ≡ 255 → whole ≡ walkOf limit 0 (rulesOf t) (startOf address)
   unfolding endOf
   late o l h = rw (endOf, early-none t address room o l h)
+
+  -- the number is the early one, or else the walk's
+  pub end-number : endNumber whole ≡ orElse (earlyNumber t address room) (endNumber (walkOf limit 0 (rulesOf t) (startOf address)))
+  unfolding endOf
+  end-number = go (earlyNumber t address room) refl
+    where
+      go : (n : ℕ) → earlyNumber t address room ≡ n → endNumber whole ≡ orElse (earlyNumber t address room) (endNumber (walkOf limit 0 (rulesOf t) (startOf address)))
+      go zero e = rw (endOf, e)
+      go (suc n) e = rw (endOf, e)
