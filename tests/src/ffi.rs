@@ -27,7 +27,7 @@ extern "C" {
         figures: *mut u32,
         figures_length: usize,
     ) -> u32;
-    fn a6plan_check(table: *const u8, table_length: usize) -> u32;
+    fn a6plan_check(table: *const u8, table_length: usize, figures: *mut u32, figures_length: usize) -> u32;
     fn a6plan_owner(
         table: *const u8,
         table_length: usize,
@@ -107,10 +107,10 @@ pub fn write_1998(value: &[u8], out: &mut [u8], figures: &mut [u32]) -> u32 {
     }
 }
 
-/// 0 for a table in order, else 1, 2 or 3.
-pub fn check(table: &[u8]) -> u32 {
-    // SAFETY: pointer and length come from one live slice.
-    unsafe { a6plan_check(table.as_ptr(), table.len()) }
+/// 0 for a table in order, else 1, 2 or 3; figures: after 2 and 3 the index of the record at fault and its field.
+pub fn check(table: &[u8], figures: &mut [u32]) -> u32 {
+    // SAFETY: each pointer and length come from one live slice, and the written one is lent mutably.
+    unsafe { a6plan_check(table.as_ptr(), table.len(), figures.as_mut_ptr(), figures.len()) }
 }
 
 /// Where the owner of record `index` stands in the table; figures: offset and length.
@@ -119,8 +119,8 @@ pub fn owner(table: &[u8], index: usize, figures: &mut [u32]) -> u32 {
     unsafe { a6plan_owner(table.as_ptr(), table.len(), index, figures.as_mut_ptr(), figures.len()) }
 }
 
-/// The addresses of `name` in `out`, and the TTL of each in `ttls`, if the work is at most `limit`; figures: their count
-/// and the work.
+/// The addresses of `name` in `out`, and the TTL of each in `ttls`, if the work is at most `limit`; figures: their count,
+/// the work, and index and field as the check gives them.
 pub fn lookup(table: &[u8], name: &[u8], limit: u32, out: &mut [u8], ttls: &mut [u32], figures: &mut [u32]) -> u32 {
     // SAFETY: each pointer and length come from one live slice, and the written ones are lent mutably.
     unsafe {
@@ -140,7 +140,8 @@ pub fn lookup(table: &[u8], name: &[u8], limit: u32, out: &mut [u8], ttls: &mut 
     }
 }
 
-/// The name that `address` leads to in `out`, by at most `limit` rewrites; figures: its length and the rewrites.
+/// The name that `address` leads to in `out`, by at most `limit` rewrites; figures: its length, the rewrites, and index and
+/// field as the check gives them.
 pub fn reverse(table: &[u8], address: &[u8], limit: u8, out: &mut [u8], figures: &mut [u32]) -> u32 {
     // SAFETY: each pointer and length come from one live slice, and the written ones are lent mutably.
     unsafe {
@@ -158,7 +159,7 @@ pub fn reverse(table: &[u8], address: &[u8], limit: u8, out: &mut [u8], figures:
     }
 }
 
-/// The table in which `name` is collapsed in `out`; figures: its records and 0.
+/// The table in which `name` is collapsed in `out`; figures: its records, 0, and index and field as the check gives them.
 pub fn collapse(table: &[u8], name: &[u8], out: &mut [u8], figures: &mut [u32]) -> u32 {
     // SAFETY: each pointer and length come from one live slice, and the written ones are lent mutably.
     unsafe {

@@ -1,5 +1,6 @@
 //! Memory lent to a call, with guard cells on both sides of it.
 
+use crate::plain::plan::Place;
 use crate::plain::Answer;
 
 /// Guard cells on each side.
@@ -80,15 +81,15 @@ pub struct Sides {
 }
 
 impl Sides {
-    /// Outputs of up to `most` octets, up to four TTLs more than they have room for addresses, and up to four figures.
+    /// Outputs of up to `most` octets, up to four TTLs more than they have room for addresses, and up to six figures.
     pub fn new(most: usize) -> Sides {
         let numbers = |most: usize| Pair::new(|| Lent::new(most, 0xe7e7_e7e7, 0x9c9c_9c9c));
-        Sides { out: Pair::new(|| Lent::new(most, 0xe7, 0x9c)), ttls: numbers(most / 16 + 4), figures: numbers(4) }
+        Sides { out: Pair::new(|| Lent::new(most, 0xe7, 0x9c)), ttls: numbers(most / 16 + 4), figures: numbers(6) }
     }
 
     /// The number that the library's call gives with an output and figures of these lengths. It is the number of the
-    /// reference's call; both left the same in every octet of the output and in the figures, zeros alone after a
-    /// refusal, and nothing beside them has changed.
+    /// reference's call; both left the same in every octet of the output and in the figures, and nothing beside them has
+    /// changed. After a refusal that is zeros alone, but for the place of a table's fault after 2 and 3 (T-04).
     pub fn number(
         &mut self,
         [out, figures]: [usize; 2],
@@ -115,13 +116,20 @@ impl Sides {
         assert!(self.out.agree(), "{}: the output is not the reference's: {:02x?}", about(), self.out.shown());
         assert!(self.ttls.agree(), "{}: the TTLs are not the reference's: {:?}", about(), self.ttls.shown());
         assert!(self.figures.agree(), "{}: the figures are not the reference's: {:?}", about(), self.figures.shown());
-        assert!(number == 0 || self.blank(), "{}: a refusal leaves zeros", about());
+        let places = if matches!(number, 2 | 3) { 2 } else { 0 };
+        assert!(number == 0 || self.blank_before(places), "{}: a refusal leaves zeros", about());
         number
     }
 
     /// What the library left is zeros alone.
     pub fn blank(&self) -> bool {
-        let mut numbers = self.ttls.shown().iter().chain(self.figures.shown());
+        self.blank_before(0)
+    }
+
+    /// The same without the last figures, as many as `places`.
+    pub fn blank_before(&self, places: usize) -> bool {
+        let figures = self.figures.shown();
+        let mut numbers = self.ttls.shown().iter().chain(figures.iter().rev().skip(places));
         numbers.all(|number| *number == 0) && self.out.shown().iter().all(|octet| *octet == 0)
     }
 
@@ -132,9 +140,14 @@ impl Sides {
         written
     }
 
-    /// The two figures that the library left.
+    /// The first two figures that the library left.
     pub fn counted(&self) -> [u32; 2] {
-        self.figures.shown().try_into().expect("two figures")
+        *self.figures.shown().first_chunk().expect("two figures")
+    }
+
+    /// The place of a table's fault, which the library left in the last two figures.
+    pub fn place(&self) -> Place {
+        *self.figures.shown().last_chunk().expect("two figures")
     }
 
     /// All that the library left, with its number.

@@ -10,6 +10,7 @@ use crate::generate::{a6, plan, Random};
 use crate::layout::Layout;
 use crate::lent::Sides;
 use crate::met::Met;
+use crate::reference::plan::FIGURES;
 use crate::{ffi, reference};
 
 /// The exported functions, in the order of their numbers here.
@@ -39,8 +40,6 @@ struct Soak {
     /// Tables and names in hand, for several calls.
     tables: Vec<Box<[u8]>>,
     names: Vec<Box<[u8]>>,
-    /// The function that is called.
-    function: usize,
     sides: Sides,
     met: [Met; FUNCTIONS.len()],
 }
@@ -48,12 +47,6 @@ struct Soak {
 /// The octets in memory of their own.
 fn alone(octets: &[u8]) -> Box<[u8]> {
     octets.into()
-}
-
-/// A call in words.
-fn about(function: usize, tables: &[Box<[u8]>], names: &[Box<[u8]>]) -> String {
-    let tables: Vec<usize> = tables.iter().map(|table| table.len()).collect();
-    format!("{}, tables of {tables:?} octets, names {names:02x?}", FUNCTIONS[function])
 }
 
 impl Soak {
@@ -65,7 +58,6 @@ impl Soak {
             walk: Walk::default(),
             tables: Vec::new(),
             names: Vec::new(),
-            function: 0,
             sides: Sides::new(64 * plan::RECORD),
             met: Default::default(),
         }
@@ -113,20 +105,20 @@ impl Soak {
 
     fn call(&mut self) {
         let function = self.random.below(FUNCTIONS.len());
-        self.function = function;
         // The table that suits the function, mostly.
         let usual = (FUNCTIONS[function] == "reverse") as usize;
         let table = if self.random.once_in(4) { self.random.below(self.tables.len()) } else { usual };
         let table = self.tables[table].clone();
         let name = self.names[self.random.below(self.names.len())].clone();
-        let figures = if self.random.once_in(16) { self.random.below(5) } else { 2 };
+        let wanted = if ["lookup", "reverse", "collapse"].contains(&FUNCTIONS[function]) { FIGURES } else { 2 };
+        let figures = if self.random.once_in(16) { self.random.below(7) } else { wanted };
         let number = match FUNCTIONS[function] {
             "standard" => self.standard(&name, figures),
             "read" => self.read(Layout::A6),
             "write" => self.write(Layout::A6, figures),
             "read_1998" => self.read(Layout::Draft),
             "write_1998" => self.write(Layout::Draft, figures),
-            "check" => self.both([0, 0], |_, _| ffi::check(&table), |_, _| reference::plan::check(&table)),
+            "check" => self.sides.check(&table, figures),
             "owner" => self.owner(&table, figures),
             "lookup" => self.lookup(&table, &name, figures),
             "reverse" => self.reverse(&table, figures),
@@ -137,20 +129,11 @@ impl Soak {
         self.met[function].count(number);
     }
 
-    /// The number of both sides.
-    fn both(
-        &mut self,
-        lengths: [usize; 2],
-        library: impl FnOnce(&mut [u8], &mut [u32]) -> u32,
-        reference: impl FnOnce(&mut [u8], &mut [u32]) -> u32,
-    ) -> u32 {
-        self.sides.number(lengths, library, reference, || about(self.function, &self.tables, &self.names))
-    }
-
     fn standard(&mut self, name: &[u8], figures: usize) -> u32 {
         let out = self.length(&[255]);
         let library = |out: &mut [u8], figures: &mut [u32]| ffi::standard(name, out, figures);
-        self.both([out, figures], library, |out, figures| reference::names::standard(name, out, figures))
+        let reference = |out: &mut [u8], figures: &mut [u32]| reference::names::standard(name, out, figures);
+        self.sides.number([out, figures], library, reference, || format!("standard form of {name:02x?}"))
     }
 
     fn read(&mut self, layout: Layout) -> u32 {
@@ -159,7 +142,9 @@ impl Soak {
         let data = alone(&data);
         let value = self.length(&[reference::a6::VALUE]);
         let [library, reference] = layout.readers();
-        self.both([value, 0], |value, _| library(&data, value), |value, _| reference(&data, value))
+        let library = |value: &mut [u8], _: &mut [u32]| library(&data, value);
+        let reference = |value: &mut [u8], _: &mut [u32]| reference(&data, value);
+        self.sides.number([value, 0], library, reference, || format!("{layout} read of {data:02x?}"))
     }
 
     fn write(&mut self, layout: Layout, figures: usize) -> u32 {
@@ -171,14 +156,14 @@ impl Soak {
         let value = alone(&value[..length]);
         let [library, reference] = layout.writers();
         let library = |out: &mut [u8], figures: &mut [u32]| library(&value, out, figures);
-        self.both([out, figures], library, |out, figures| reference(&value, out, figures))
+        let reference = |out: &mut [u8], figures: &mut [u32]| reference(&value, out, figures);
+        self.sides.number([out, figures], library, reference, || format!("{layout} write of {value:02x?}"))
     }
 
     fn owner(&mut self, table: &[u8], figures: usize) -> u32 {
         let records = table.len() / plan::RECORD;
         let index = if self.random.once_in(8) { self.random.number() as usize } else { self.random.below(records + 2) };
-        let library = |_: &mut [u8], figures: &mut [u32]| ffi::owner(table, index, figures);
-        self.both([0, figures], library, |_, figures| reference::plan::owner(table, index, figures))
+        self.sides.owner(table, index, figures)
     }
 
     fn lookup(&mut self, table: &[u8], name: &[u8], figures: usize) -> u32 {
@@ -187,13 +172,7 @@ impl Soak {
         let largest = if table.len() <= 5 * plan::RECORD { u32::MAX } else { 3_000 };
         let limit = self.random.pick(&[0, 1, 2, 5, 20, largest, largest]);
         let ttls = if self.random.once_in(16) { self.random.below(out / 16 + 3) } else { out / 16 };
-        let library =
-            |out: &mut [u8], ttls: &mut [u32], figures: &mut [u32]| ffi::lookup(table, name, limit, out, ttls, figures);
-        let reference = |out: &mut [u8], ttls: &mut [u32], figures: &mut [u32]| {
-            reference::forward::lookup(table, name, limit, out, ttls, figures)
-        };
-        let about = || about(self.function, &self.tables, &self.names);
-        self.sides.number_with_ttls([out, ttls, figures], library, reference, about)
+        self.sides.lookup(table, name, limit, [out, ttls, figures])
     }
 
     fn reverse(&mut self, table: &[u8], figures: usize) -> u32 {
@@ -201,16 +180,12 @@ impl Soak {
         let length = if self.random.once_in(16) { self.random.below(16) } else { 16 };
         let address = alone(&self.walk.address[..length]);
         let limit = self.random.pick(&[0, 1, 2, 3, 5, 10, 10, 255]);
-        let library = |out: &mut [u8], figures: &mut [u32]| ffi::reverse(table, &address, limit, out, figures);
-        let reference =
-            |out: &mut [u8], figures: &mut [u32]| reference::reverse::lookup(table, &address, limit, out, figures);
-        self.both([out, figures], library, reference)
+        self.sides.reverse(table, &address, limit, [out, figures])
     }
 
     fn collapse(&mut self, table: &[u8], name: &[u8], figures: usize) -> u32 {
         let rooms = [0, 1, 3, 8, 16, 40, 64].map(|room| room * plan::RECORD);
         let out = self.length(&rooms);
-        let library = |out: &mut [u8], figures: &mut [u32]| ffi::collapse(table, name, out, figures);
-        self.both([out, figures], library, |out, figures| reference::collapse::collapse(table, name, out, figures))
+        self.sides.collapse(table, name, [out, figures])
     }
 }

@@ -1,4 +1,5 @@
-//! `a6plan_collapse` against the reference and the plain rules, and lists of collapses (01, Collapse of a name X; T-03).
+//! `a6plan_collapse` against the reference and the plain rules, and lists of collapses (01, Collapse of a name X; T-03,
+//! T-04).
 
 use a6plan_tests::generate::examples::{self, address};
 use a6plan_tests::generate::forward::{self as make, Tangle};
@@ -11,8 +12,7 @@ use a6plan_tests::plain::collapse::{self as plain, Plan};
 use a6plan_tests::plain::forward::Graph;
 use a6plan_tests::plain::names::{encode, whole, Unit};
 use a6plan_tests::plain::plan::{check, same};
-use a6plan_tests::reference::collapse as reference;
-use a6plan_tests::reference::plan::{MOST, RECORD};
+use a6plan_tests::reference::plan::{FIGURES, MOST, RECORD};
 use a6plan_tests::{ffi, text};
 use std::collections::BTreeSet;
 
@@ -23,17 +23,14 @@ impl Sides {
         Sides(lent::Sides::new(1_200 * RECORD))
     }
 
-    /// The library's number; all that it left is the reference's.
-    fn number(&mut self, table: &[u8], name: &[u8], out: usize, figures: usize) -> u32 {
-        let library = |out: &mut [u8], figures: &mut [u32]| ffi::collapse(table, name, out, figures);
-        let reference = |out: &mut [u8], figures: &mut [u32]| reference::collapse(table, name, out, figures);
-        let about = || format!("{name:02x?} in {} records", table.len() / RECORD);
-        self.0.number([out, figures], library, reference, about)
+    /// The library's number with an output of this length; all that it left is the reference's.
+    fn number(&mut self, table: &[u8], name: &[u8], out: usize) -> u32 {
+        self.0.collapse(table, name, [out, FIGURES])
     }
 
-    /// The number with room for so many records and two figures.
+    /// The number with room for so many records.
     fn within(&mut self, table: &[u8], name: &[u8], room: usize) -> u32 {
-        self.number(table, name, room * RECORD, 2)
+        self.number(table, name, room * RECORD)
     }
 
     /// The table that the library left.
@@ -443,12 +440,12 @@ fn the_first_number_that_is_earned_is_given() {
     for (table, of_table) in &plan::earning(&examples::ignored()) {
         for (name, of_name, of_lengths) in &names {
             for out in [0, 1, RECORD - 1, RECORD, 3 * RECORD, 4 * RECORD, 4 * RECORD + 1, 5 * RECORD] {
-                for figures in [2, 0, 1, 3, 4] {
-                    let of_output = if out % RECORD != 0 || figures != 2 { 5 } else { 0 };
+                for figures in [4, 0, 1, 2, 3, 5] {
+                    let of_output = if out % RECORD != 0 || figures != 4 { 5 } else { 0 };
                     let of_room = if out < 4 * RECORD { 7 } else { 0 };
                     let earned = [*of_table, *of_name, of_output, *of_lengths, of_room];
                     let first = earned.into_iter().find(|number| *number != 0).unwrap_or(0);
-                    assert_eq!(sides.number(table, name, out, figures), first);
+                    assert_eq!(sides.0.collapse(table, name, [out, figures]), first);
                 }
             }
         }
@@ -483,7 +480,7 @@ fn generated_collapses_agree_octet_for_octet() {
         }
         // As many records as the rule makes, and so on.
         let records = match whole(&name) {
-            Some(units) if check(table) == 0 => Plan::new(table).fold(&units).len() / RECORD,
+            Some(units) if check(table).0 == 0 => Plan::new(table).fold(&units).len() / RECORD,
             _ => 3,
         };
         let mut rooms = vec![records];
@@ -495,8 +492,8 @@ fn generated_collapses_agree_octet_for_octet() {
         });
         for room in rooms {
             let out = if random.once_in(16) { random.below(3 * RECORD) } else { room * RECORD };
-            let figures = if random.once_in(20) { random.below(5) } else { 2 };
-            let number = sides.number(table, &name, out, figures);
+            let figures = if random.once_in(20) { random.below(7) } else { FIGURES };
+            let number = sides.0.collapse(table, &name, [out, figures]);
             met.count(number);
             assert_eq!(sides.0.answer(number), plain::collapse(table, &name, out, figures), "case {cases}");
             folded += (number == 0 && sides.shown() != table) as usize;
@@ -558,7 +555,7 @@ fn lists(seed: u64) {
                 1 | 2 => random.below(12) * RECORD,
                 _ => 40 * RECORD,
             };
-            let number = sides.number(&table, &given, out, 2);
+            let number = sides.number(&table, &given, out);
             met.count(number);
             let Some(units) = whole(&given) else {
                 assert_eq!(number, 4, "list {list}");
@@ -578,7 +575,7 @@ fn lists(seed: u64) {
                     assert_eq!(number, 0, "list {list}");
                     assert!(sides.shown() == folded, "list {list}");
                     if folded != table {
-                        assert_eq!(check(&folded), 0, "list {list}");
+                        assert_eq!(check(&folded).0, 0, "list {list}");
                         assert_eq!(address_sets(&folded, &names), first, "list {list}");
                         changed += 1;
                         lost += !Plan::new(&folded).owns(&units) as usize;
@@ -600,7 +597,7 @@ const RESPELT: usize = 100_000;
 /// Whether a lookup has these addresses; None where its work is too much.
 fn looks_up(table: &[u8], name: &[u8], addresses: &BTreeSet<u128>) -> Option<bool> {
     const ROOM: usize = 256;
-    let (mut out, mut ttls, mut figures) = ([0; 16 * ROOM], [0; ROOM], [0; 2]);
+    let (mut out, mut ttls, mut figures) = ([0; 16 * ROOM], [0; ROOM], [0; FIGURES]);
     match ffi::lookup(table, name, 2_000, &mut out, &mut ttls, &mut figures) {
         0 => {
             let (found, _) = out.as_chunks();
@@ -635,11 +632,11 @@ fn lists_of_collapses_by_respelt_tables_keep_the_addresses_of_every_name_in_ever
         for _ in 0..random.between(1, 5) {
             let given = &tangle.names[random.below(tangle.names.len())];
             let out = if random.once_in(8) { random.below(12) * RECORD } else { 40 * RECORD };
-            let number = sides.number(&table, &names::respelt(&mut random, given), out, 2);
+            let number = sides.number(&table, &names::respelt(&mut random, given), out);
             let collapsed = sides.shown().to_vec();
             let given = names::respelt(&mut random, given);
-            assert_eq!(sides.number(&respelt, &given, out, 2), number, "list {lists}");
-            assert_eq!(sides.0.answer(number), plain::collapse(&respelt, &given, out, 2), "list {lists}");
+            assert_eq!(sides.number(&respelt, &given, out), number, "list {lists}");
+            assert_eq!(sides.0.answer(number), plain::collapse(&respelt, &given, out, FIGURES), "list {lists}");
             met.count(number);
             calls += 1;
             if number == 0 {

@@ -1,6 +1,8 @@
 //! The examples and commands of README: its code is that of the files in examples/, which are compiled and run as it
 //! says, and print what it says.
 
+use a6plan_tests::generate::plan::{break_field, dname_record, name};
+use a6plan_tests::plain::plan::Field;
 use a6plan_tests::tree::{repository, text_of};
 use std::fs;
 use std::path::{Path, PathBuf};
@@ -59,7 +61,7 @@ fn looked_up(program: &str, slot: &[u8], records: &[u8]) -> (Option<i32>, String
     (output.status.code(), text(output.stdout), text(output.stderr))
 }
 
-/// A lookup takes 1,024 records and no more, and refuses in words.
+/// A lookup takes 1,024 records and no more, and refuses in words, with the record and the field after 2 and 3.
 fn assert_whole(program: &str) {
     let sample = fs::read(repository().join("crates/lookup/stdin")).expect("the sample plan");
     let (slot, records) = sample.split_at(256);
@@ -74,10 +76,22 @@ fn assert_whole(program: &str) {
     }
     let words = "the name is malformed, or cut short: its slot has 256 octets";
     assert_eq!(looked_up(program, &slot[1..], &[]), refused(4, words));
-    let mut long = host.to_vec();
-    long[1] = 200;
-    let words = "a record is out of order: a type, prefix length, bit, name or TTL is not as it must be";
-    assert_eq!(looked_up(program, slot, &long), refused(2, words));
+    // Each field of the host's record, among carriers.
+    for (field, named) in
+        Field::ALL.into_iter().zip(["type", "prefix length", "zero octet", "address", "owner", "target", "TTL"])
+    {
+        let mut bad = host.to_vec();
+        break_field(&mut bad, field);
+        for index in [0, 17] {
+            let table = [carrier.repeat(index), bad.clone(), carrier.to_vec()].concat();
+            let words = format!("record {index}, {named}: not as it must be");
+            assert_eq!(looked_up(program, slot, &table), refused(2, &words));
+        }
+    }
+    let dname = dname_record(&name("s.a"), &name("t.a"));
+    let again = dname_record(&name("S.A"), &name("u"));
+    let words = "record 2, owner: an earlier DNAME has the same (the case of letters does not count)";
+    assert_eq!(looked_up(program, slot, &[&dname[..], host, &again].concat()), refused(3, words));
 }
 
 /// Input that cannot be read, and output that cannot be written for this input, are told apart from refusals.

@@ -1,4 +1,4 @@
-//! `a6plan_lookup` against the reference and the plain rules (01, Chains; T-01, T-03).
+//! `a6plan_lookup` against the reference and the plain rules (01, Chains; T-01, T-03, T-04).
 
 use a6plan_tests::generate::examples::{self, address};
 use a6plan_tests::generate::forward::{self as make, Tangle};
@@ -10,7 +10,7 @@ use a6plan_tests::met::Met;
 use a6plan_tests::plain::forward::{self as plain, Graph, Least};
 use a6plan_tests::plain::names::{encode, whole};
 use a6plan_tests::reference::forward as reference;
-use a6plan_tests::reference::plan::{MOST, RECORD};
+use a6plan_tests::reference::plan::{FIGURES, MOST, RECORD};
 use a6plan_tests::{ffi, text};
 use std::collections::BTreeSet;
 use std::thread;
@@ -22,20 +22,9 @@ impl Sides {
         Sides(lent::Sides::new(16 * 4096))
     }
 
-    /// The library's number for an output, TTLs and figures of these lengths; all that it left is the reference's.
-    fn number(&mut self, table: &[u8], name: &[u8], limit: u32, lengths: [usize; 3]) -> u32 {
-        let library =
-            |out: &mut [u8], ttls: &mut [u32], figures: &mut [u32]| ffi::lookup(table, name, limit, out, ttls, figures);
-        let reference = |out: &mut [u8], ttls: &mut [u32], figures: &mut [u32]| {
-            reference::lookup(table, name, limit, out, ttls, figures)
-        };
-        let about = || format!("{name:02x?} in {} records, limit {limit}", table.len() / RECORD);
-        self.0.number_with_ttls(lengths, library, reference, about)
-    }
-
-    /// The number with room for so many addresses and TTLs, and two figures.
+    /// The library's number with room for so many addresses and TTLs; all that it left is the reference's.
     fn within(&mut self, table: &[u8], name: &[u8], limit: u32, room: usize) -> u32 {
-        self.number(table, name, limit, [16 * room, room, 2])
+        self.0.lookup(table, name, limit, [16 * room, room, FIGURES])
     }
 
     /// The addresses and the work of a lookup that is accepted.
@@ -204,14 +193,14 @@ fn the_first_number_that_is_earned_is_given() {
     for (table, of_table) in &tables {
         for (name, of_name) in &names {
             for (out, ttls) in OUTPUTS {
-                for figures in [2, 0, 1, 3, 4] {
+                for figures in [4, 0, 1, 2, 3, 5] {
                     for limit in [0, 2, u32::MAX] {
-                        let of_output = if out != 16 * ttls || figures != 2 { 5 } else { 0 };
+                        let of_output = if out != 16 * ttls || figures != 4 { 5 } else { 0 };
                         let of_work = if !table.is_empty() && limit < 2 { 6 } else { 0 };
                         let of_room = if !table.is_empty() && out == 0 { 7 } else { 0 };
                         let earned = [*of_table, *of_name, of_output, of_work, of_room];
                         let first = earned.into_iter().find(|number| *number != 0).unwrap_or(0);
-                        assert_eq!(sides.number(table, name, limit, [out, ttls, figures]), first);
+                        assert_eq!(sides.0.lookup(table, name, limit, [out, ttls, figures]), first);
                     }
                 }
             }
@@ -506,7 +495,8 @@ fn ttls_one_too_many_or_one_too_few_are_5() {
     let (table, owner) = (examples::loop_of_one(), name("x.a"));
     for room in 0..=64_usize {
         for ttls in [Some(room + 1), room.checked_sub(1)].into_iter().flatten() {
-            assert_eq!(sides.number(&table, &owner, 3, [16 * room, ttls, 2]), 5, "{ttls} TTLs for {room} addresses");
+            let number = sides.0.lookup(&table, &owner, 3, [16 * room, ttls, FIGURES]);
+            assert_eq!(number, 5, "{ttls} TTLs for {room} addresses");
             assert!(sides.0.blank());
         }
     }
@@ -519,18 +509,18 @@ fn every_refusal_leaves_zeros_in_both_lists() {
     let mut met = Met::default();
     let (good, owner) = (examples::loop_of_one(), name("x.a"));
     let mut call = |table: &[u8], name: &[u8], limit: u32, lengths: [usize; 3]| {
-        let number = sides.number(table, name, limit, lengths);
-        assert_eq!(sides.0.blank(), number != 0, "{number}");
+        let number = sides.0.lookup(table, name, limit, lengths);
+        assert_eq!(sides.0.blank_before(2), number != 0, "{number}");
         met.count(number);
     };
     for (table, _) in plan::earning(&good) {
-        call(&table, &owner, 3, [32, 2, 2]);
+        call(&table, &owner, 3, [32, 2, FIGURES]);
     }
-    call(&good, &owner[1..], 3, [32, 2, 2]);
-    call(&good, &owner, 3, [32, 1, 2]);
-    call(&good, &owner, 3, [32, 2, 1]);
-    call(&good, &owner, 2, [32, 2, 2]);
-    call(&good, &owner, 3, [16, 1, 2]);
+    call(&good, &owner[1..], 3, [32, 2, FIGURES]);
+    call(&good, &owner, 3, [32, 1, FIGURES]);
+    call(&good, &owner, 3, [32, 2, FIGURES - 1]);
+    call(&good, &owner, 2, [32, 2, FIGURES]);
+    call(&good, &owner, 3, [16, 1, FIGURES]);
     met.are("lookup of a loop", &[0, 1, 2, 3, 4, 5, 6, 7], 0);
 }
 
@@ -548,7 +538,7 @@ fn enumerated(lookup: Lookup) {
         make::either(&mut random, &mut made, 2, [6, 6], &mut tangle);
         let graph = Graph::new(&tangle.table);
         for name in &tangle.names {
-            let (mut out, mut ttls, mut figures) = ([0; 16 * ROOM], [0; ROOM], [0; 2]);
+            let (mut out, mut ttls, mut figures) = ([0; 16 * ROOM], [0; ROOM], [0; FIGURES]);
             assert_eq!(lookup(&tangle.table, name, u32::MAX, &mut out, &mut ttls, &mut figures), 0);
             let (addresses, _) = out.as_chunks();
             let found = addresses.iter().map(|octets| u128::from_be_bytes(*octets)).zip(ttls);
@@ -669,7 +659,7 @@ const THREAD: usize = 64 << 10;
 fn a_chain_of_1024_records_needs_at_most_a_mebioctet_of_stack() {
     for tangle in longest_chains() {
         let call = move || {
-            let (mut out, mut ttls, mut figures) = (vec![0; 64 * 16], vec![0; 64], vec![0; 2]);
+            let (mut out, mut ttls, mut figures) = (vec![0; 64 * 16], vec![0; 64], vec![0; FIGURES]);
             ffi::lookup(&tangle.table, &tangle.names[0], 1_000_000, &mut out, &mut ttls, &mut figures)
         };
         let thread = thread::Builder::new().stack_size((1 << 20) + THREAD).spawn(call).expect("a thread");
@@ -751,8 +741,8 @@ fn generated_calls_agree_octet_for_octet() {
         let limit = random.pick(&[0, 1, 2, 3, 5, 8, 20, 100, COUNTED as u32, COUNTED as u32]);
         let out = if random.once_in(12) { random.below(100) } else { 16 * random.pick(&[0, 1, 1, 2, 3, 5, 10, 64]) };
         let ttls = if random.once_in(16) { random.below(out / 16 + 3) } else { out / 16 };
-        let figures = if random.once_in(16) { random.below(5) } else { 2 };
-        let number = sides.number(table, &name, limit, [out, ttls, figures]);
+        let figures = if random.once_in(16) { random.below(7) } else { FIGURES };
+        let number = sides.0.lookup(table, &name, limit, [out, ttls, figures]);
         met.count(number);
         let left = (sides.0.answer(number), sides.0.ttls.shown().to_vec());
         assert_eq!(left, plain::lookup(table, &name, limit, [out, ttls, figures]), "case {case}");
@@ -784,7 +774,7 @@ fn generated_tables_respelt_have_the_same_addresses_ttls_and_work() {
             let given = names::respelt(&mut random, name);
             let number = sides.within(&respelt, &given, limit, room);
             assert_eq!((sides.0.answer(number), sides.0.ttls.shown().to_vec()), left, "case {cases}");
-            assert_eq!(left, plain::lookup(&respelt, &given, limit, [16 * room, room, 2]), "case {cases}");
+            assert_eq!(left, plain::lookup(&respelt, &given, limit, [16 * room, room, FIGURES]), "case {cases}");
             met.count(number);
             several += (number == 0 && sides.0.counted()[0] > 1) as usize;
             cases += 1;

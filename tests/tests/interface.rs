@@ -1,5 +1,6 @@
-//! The C header declares what the crate `a6plan` exports, with the same types in the same order.
+//! The C header declares what the crate `a6plan` exports, with the same types in the same order, and numbers the fields.
 
+use a6plan_tests::plain::plan::Field;
 use a6plan_tests::tree::text_of;
 use std::collections::BTreeMap;
 
@@ -43,4 +44,13 @@ fn the_header_declares_what_is_exported() {
     let exported = functions("crates/a6plan/src/lib.rt", "\npub extern \"C\" fn ", exported);
     assert_eq!(functions("include/a6plan.h", "\nuint32_t ", declared), exported);
     assert!(exported.len() >= 10 && exported.keys().all(|name| name.starts_with("a6plan_")), "{exported:?}");
+}
+
+#[test]
+fn the_header_numbers_the_fields() {
+    let header = text_of("include/a6plan.h");
+    for field in Field::ALL {
+        let name = format!("{field:?}").to_uppercase();
+        assert!(header.contains(&format!("#define A6PLAN_FIELD_{name} {}\n", field as u32)), "{field:?}");
+    }
 }

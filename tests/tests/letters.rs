@@ -5,8 +5,8 @@ use a6plan_tests::generate::names::{self as make, Name};
 use a6plan_tests::generate::plan::{a6_record, dname_record, full_name, name};
 use a6plan_tests::generate::Random;
 use a6plan_tests::plain::names::{below, encode, same, whole};
-use a6plan_tests::reference::plan::RECORD;
-use a6plan_tests::{ffi, lent, reference, text};
+use a6plan_tests::reference::plan::{FIGURES, RECORD};
+use a6plan_tests::{ffi, lent, text};
 
 /// A name that none of the others here is, as an owner, a target or the end of a walk.
 const ANOTHER: &str = "another.name.than.these";
@@ -34,21 +34,14 @@ impl Sides {
     /// 3 for two DNAMEs with these owners.
     fn share_an_owner(&mut self, one: &[u8], other: &[u8]) -> bool {
         let table = [one, other].map(|owner| dname_record(owner, &name(ANOTHER))).concat();
-        let number = ffi::check(&table);
-        assert_eq!(number, reference::plan::check(&table), "{one:02x?} and {other:02x?}");
+        let number = self.0.check(&table, 2);
         assert!(number == 0 || number == 3, "{one:02x?} and {other:02x?} earn {number}");
         number == 3
     }
 
     /// How many addresses a lookup finds in a table.
     fn addresses(&mut self, table: &[u8], name: &[u8]) -> u32 {
-        let library =
-            |out: &mut [u8], ttls: &mut [u32], figures: &mut [u32]| ffi::lookup(table, name, 9, out, ttls, figures);
-        let reference = |out: &mut [u8], ttls: &mut [u32], figures: &mut [u32]| {
-            reference::forward::lookup(table, name, 9, out, ttls, figures)
-        };
-        let number = self.0.number_with_ttls([16, 1, 2], library, reference, || format!("{name:02x?}"));
-        assert_eq!(number, 0, "{name:02x?}");
+        assert_eq!(self.0.lookup(table, name, 9, [16, 1, FIGURES]), 0, "{name:02x?}");
         self.0.counted()[0]
     }
 
@@ -65,9 +58,7 @@ impl Sides {
 
     /// The number for a collapse and the records after it.
     fn collapse(&mut self, table: &[u8], name: &[u8]) -> (u32, usize) {
-        let library = |out: &mut [u8], figures: &mut [u32]| ffi::collapse(table, name, out, figures);
-        let reference = |out: &mut [u8], figures: &mut [u32]| reference::collapse::collapse(table, name, out, figures);
-        let number = self.0.number([2 * RECORD, 2], library, reference, || format!("{name:02x?}"));
+        let number = self.0.collapse(table, name, [2 * RECORD, FIGURES]);
         (number, self.0.counted()[0] as usize)
     }
 
@@ -98,10 +89,7 @@ impl Sides {
     /// as many units; the first is short enough.
     fn is_rewritten(&mut self, one: &[u8], other: &[u8]) -> bool {
         let table = [dname_record(&name("IP6.ARPA"), one), dname_record(other, &name(ANOTHER))].concat();
-        let library = |out: &mut [u8], figures: &mut [u32]| ffi::reverse(&table, &[0; 16], 9, out, figures);
-        let reference =
-            |out: &mut [u8], figures: &mut [u32]| reference::reverse::lookup(&table, &[0; 16], 9, out, figures);
-        let number = self.0.number([255, 2], library, reference, || format!("{one:02x?} and {other:02x?}"));
+        let number = self.0.reverse(&table, &[0; 16], 9, [255, FIGURES]);
         assert_eq!(number, 0, "{one:02x?} and {other:02x?}");
         self.0.counted()[1] == 2
     }
@@ -314,8 +302,8 @@ fn a_bit_label_begins_with_65_alone() {
     let bit = [65, 8, 0x41, 1, b'a', 0];
     let small = [97, 8, 0x41, 1, b'a', 0];
     sides.assert_all(&bit, &bit, true);
-    assert_eq!(ffi::check(&dname_record(&bit, &name("t"))), 0);
-    assert_eq!(ffi::check(&dname_record(&small, &name("t"))), 2);
+    assert_eq!(sides.0.check(&dname_record(&bit, &name("t")), 2), 0);
+    assert_eq!(sides.0.check(&dname_record(&small, &name("t")), 2), 2);
     let (mut out, mut figures) = ([0; 255], [0; 2]);
     assert_eq!(ffi::standard(&small, &mut out, &mut figures), 4);
 }

@@ -1,6 +1,5 @@
-//! `a6plan_check` and `a6plan_owner` against the reference and the plain rules (01, The plan table).
+//! `a6plan_check` and `a6plan_owner` against the reference and the plain rules (01, The plan table; T-04).
 
-use a6plan_tests::ffi;
 use a6plan_tests::generate::names::Name;
 use a6plan_tests::generate::plan::{
     self as make, a6_record, dname_record, name, put_ttl, record, with_ttls, A6, DNAME, LONGEST, OWNER, TARGET, TTL,
@@ -8,14 +7,23 @@ use a6plan_tests::generate::plan::{
 use a6plan_tests::generate::Random;
 use a6plan_tests::lent;
 use a6plan_tests::met::Met;
-use a6plan_tests::plain::plan::{self as plain, Field};
-use a6plan_tests::reference::plan::{self as reference, MOST, RECORD};
+use a6plan_tests::plain::plan::{self as plain, broken, repeated, Field, Place};
+use a6plan_tests::reference::plan::{MOST, RECORD};
 
-/// The library's number for a table, which is the reference's.
+/// The library's number for a table and the place of the fault, which are the reference's.
+fn checked(table: &[u8]) -> (u32, Place) {
+    let mut sides = lent::Sides::new(0);
+    (sides.check(table, 2), sides.place())
+}
+
+/// The number alone.
 fn check(table: &[u8]) -> u32 {
-    let number = ffi::check(table);
-    assert_eq!(number, reference::check(table), "a table of {} octets", table.len());
-    number
+    checked(table).0
+}
+
+/// What a table earns whose first fault, if it has one, is this field of this record.
+fn earned(index: usize, fault: Option<Field>) -> (u32, Place) {
+    fault.map_or((0, [0, 0]), |field| broken(index, field))
 }
 
 struct Sides(lent::Sides);
@@ -27,10 +35,7 @@ impl Sides {
 
     /// The library's number and figures, which are the reference's.
     fn owner(&mut self, table: &[u8], index: usize, figures: usize) -> (u32, Vec<u32>) {
-        let library = |_: &mut [u8], figures: &mut [u32]| ffi::owner(table, index, figures);
-        let reference = |_: &mut [u8], figures: &mut [u32]| reference::owner(table, index, figures);
-        let about = || format!("index {index}, a table of {} octets", table.len());
-        let number = self.0.number([0, figures], library, reference, about);
+        let number = self.0.owner(table, index, figures);
         (number, self.0.figures.shown().to_vec())
     }
 
@@ -161,10 +166,10 @@ fn every_octet_of_a_record_set_to_every_other_value() {
         for at in 0..RECORD {
             for octet in 0..=255 {
                 record[at] = octet;
-                let number = check(&record);
+                let said = checked(&record);
                 if octet % 16 == at as u8 % 16 || octet < 4 {
                     let fault = plain::fault(&record);
-                    assert_eq!(number, if fault.is_some() { 2 } else { 0 }, "octet {at} set to {octet}");
+                    assert_eq!(said, earned(0, fault), "octet {at} set to {octet}");
                     if let Some(field) = fault {
                         fields[field as usize] += 1;
                     }
@@ -188,7 +193,10 @@ fn every_octet_of_a_record_damaged_among_others() {
             for octet in [0, 1, 0x41, 0x80, 0xff, table[at] ^ 1] {
                 damaged[at] = octet;
                 let fault = plain::fault(&damaged[index * RECORD..(index + 1) * RECORD]);
-                assert_eq!(check(&damaged) == 2, fault.is_some(), "octet {at} set to {octet}");
+                let said = checked(&damaged);
+                if fault.is_some() || said.0 == 2 {
+                    assert_eq!(said, earned(index, fault), "octet {at} set to {octet}");
+                }
             }
             damaged[at] = table[at];
         }
@@ -204,6 +212,9 @@ fn every_type_but_a6_and_dname_is_refused() {
         dname[..2].copy_from_slice(&kind.to_be_bytes());
         assert_eq!(check(&a6), if kind == 38 { 0 } else { 2 }, "type {kind}");
         assert_eq!(check(&dname), if kind == 39 { 0 } else { 2 }, "type {kind}");
+        if kind != 38 && kind != 39 {
+            assert_eq!(checked(&dname), broken(0, Field::Type), "type {kind}");
+        }
     }
 }
 
@@ -214,10 +225,15 @@ fn every_prefix_length_with_every_address_bit() {
             let address = 1_u128.checked_shl(127_u32.wrapping_sub(bit)).unwrap_or(0);
             let target: &[u8] = if length == 0 { &[] } else { &[0] };
             let clear = bit == 128 || bit >= length as u32;
+            let fault = |long: bool, set: bool| match (long, set) {
+                (true, _) => Some(Field::Length),
+                (false, true) => Some(Field::Address),
+                (false, false) => None,
+            };
             let a6 = record(A6, length, address, &name("a"), target);
-            assert_eq!(check(&a6), if length <= 128 && clear { 0 } else { 2 }, "A6 {length}, bit {bit}");
+            assert_eq!(checked(&a6), earned(0, fault(length > 128, !clear)), "A6 {length}, bit {bit}");
             let dname = record(DNAME, length, address, &name("a"), &[0]);
-            assert_eq!(check(&dname), if length == 0 && bit == 128 { 0 } else { 2 }, "DNAME {length}, bit {bit}");
+            assert_eq!(checked(&dname), earned(0, fault(length > 0, bit < 128)), "DNAME {length}, bit {bit}");
         }
     }
 }
@@ -249,7 +265,7 @@ fn every_octet_of_an_unwanted_target_slot_is_refused_when_set() {
         for octet in [1, 0x40, 0xff] {
             let mut record = a6_record(&name("a"), 0, 7, &[]);
             record[at] = octet;
-            assert_eq!(check(&record), 2, "octet {at}");
+            assert_eq!(checked(&record), broken(0, Field::Target), "octet {at}");
         }
     }
 }
@@ -262,13 +278,13 @@ fn ttls_up_to_the_largest_are_taken_and_larger_ones_refused() {
     let ttls = [0, 1, 255, 256, 65_536, 1 << 24, LONGEST - 1, LONGEST, LONGEST + 1, 3 << 30, u32::MAX - 1, u32::MAX];
     for (index, good) in good_records().iter().enumerate() {
         for ttl in ttls {
-            let expected = if ttl <= LONGEST { 0 } else { 2 };
+            let fault = (ttl > LONGEST).then_some(Field::Ttl);
             let record = with_ttls(good.to_vec(), &[ttl]);
-            assert_eq!(check(&record), expected, "TTL {ttl} alone");
-            assert_eq!(plain::fault(&record), (expected == 2).then_some(Field::Ttl), "TTL {ttl}");
+            assert_eq!(checked(&record), earned(0, fault), "TTL {ttl} alone");
+            assert_eq!(plain::fault(&record), fault, "TTL {ttl}");
             let mut table = all.clone();
             put_ttl(&mut table[index * RECORD..(index + 1) * RECORD], ttl);
-            assert_eq!(check(&table), expected, "TTL {ttl} of record {index}");
+            assert_eq!(checked(&table), earned(index, fault), "TTL {ttl} of record {index}");
         }
     }
 }
@@ -287,19 +303,23 @@ fn a_ttl_too_large_is_found_after_the_other_fields_and_before_shared_owners() {
     for (at, field) in [0, 2, 3, OWNER - 1, OWNER, TARGET].into_iter().zip(fields) {
         let mut record = lasting.clone();
         record[at] ^= 1;
-        assert_eq!(check(&record), 2, "{field:?}");
+        assert_eq!(checked(&record), broken(0, field), "{field:?}");
         assert_eq!(plain::fault(&record), Some(field));
     }
 }
 
+/// Where the slots of a record begin, and their fields.
+const SLOTS: [(usize, Field); 2] = [(OWNER, Field::Owner), (TARGET, Field::Target)];
+
 #[test]
 fn every_length_octet_of_a_slot_but_the_right_one_is_refused() {
     for good in good_records() {
-        for slot in [OWNER, TARGET] {
+        for (slot, field) in SLOTS {
             for length in 0..=255 {
                 let mut record = good;
                 record[slot] = length;
-                assert_eq!(check(&record), if length == good[slot] { 0 } else { 2 }, "length {length} at {slot}");
+                let fault = (length != good[slot]).then_some(field);
+                assert_eq!(checked(&record), earned(0, fault), "length {length} at {slot}");
             }
         }
     }
@@ -308,12 +328,12 @@ fn every_length_octet_of_a_slot_but_the_right_one_is_refused() {
 #[test]
 fn every_octet_of_the_fill_is_refused_when_set() {
     for good in good_records() {
-        for slot in [OWNER, TARGET] {
+        for (slot, field) in SLOTS {
             for at in slot + 1 + good[slot] as usize..slot + 256 {
                 for octet in [1, 0x80, 0xff] {
                     let mut record = good;
                     record[at] = octet;
-                    assert_eq!(check(&record), 2, "octet {at}");
+                    assert_eq!(checked(&record), broken(0, field), "octet {at}");
                 }
             }
         }
@@ -340,11 +360,12 @@ fn names_malformed_or_not_in_standard_form_are_refused() {
     ];
     for (what, bad) in cases {
         let good = name("a");
-        assert_eq!(check(&a6_record(&bad, 0, 0, &[])), 2, "{what}: owner of A6 0");
-        assert_eq!(check(&a6_record(&bad, 64, 0, &good)), 2, "{what}: owner of A6 64");
-        assert_eq!(check(&a6_record(&good, 64, 0, &bad)), 2, "{what}: target of A6 64");
-        assert_eq!(check(&dname_record(&bad, &good)), 2, "{what}: owner of DNAME");
-        assert_eq!(check(&dname_record(&good, &bad)), 2, "{what}: target of DNAME");
+        let [owner, target] = [Field::Owner, Field::Target].map(|field| broken(0, field));
+        assert_eq!(checked(&a6_record(&bad, 0, 0, &[])), owner, "{what}: owner of A6 0");
+        assert_eq!(checked(&a6_record(&bad, 64, 0, &good)), owner, "{what}: owner of A6 64");
+        assert_eq!(checked(&a6_record(&good, 64, 0, &bad)), target, "{what}: target of A6 64");
+        assert_eq!(checked(&dname_record(&bad, &good)), owner, "{what}: owner of DNAME");
+        assert_eq!(checked(&dname_record(&good, &bad)), target, "{what}: target of DNAME");
     }
 }
 
@@ -354,11 +375,22 @@ fn one_bad_record_anywhere_in_a_full_table_is_found() {
         assert_eq!(table.len(), MOST * RECORD);
         assert_eq!(check(&table), 0);
         for index in [0, 1, 2, 255, 256, 510, 511, 512, 1_021, 1_022, 1_023] {
-            for at in [0, 1, 2, 3, OWNER, OWNER + 1, TARGET - 1, TARGET, TTL - 1, TTL] {
+            for (at, field) in [
+                (0, Field::Type),
+                (1, Field::Type),
+                (2, Field::Length),
+                (3, Field::Zero),
+                (OWNER, Field::Owner),
+                (OWNER + 1, Field::Owner),
+                (TARGET - 1, Field::Owner),
+                (TARGET, Field::Target),
+                (TTL - 1, Field::Target),
+                (TTL, Field::Ttl),
+            ] {
                 let at = index * RECORD + at;
                 let good = table[at];
                 table[at] ^= 0xc1;
-                assert_eq!(check(&table), 2, "octet {at}");
+                assert_eq!(checked(&table), broken(index, field), "octet {at}");
                 table[at] = good;
             }
         }
@@ -381,7 +413,7 @@ fn two_dnames_with_one_owner_are_refused_wherever_they_stand() {
             assert_eq!(check(&table), 0, "one at {one}");
             let mut another = dname_record(&name("shared.owner.a"), &name("another.target"));
             put(&mut table, other, &another);
-            assert_eq!(check(&table), 3, "at {one} and {other}");
+            assert_eq!(checked(&table), repeated(other), "at {one} and {other}");
             another[OWNER + 2] ^= 1;
             put(&mut table, other, &another);
             assert_eq!(check(&table), 0, "at {one} and nearly at {other}");
@@ -399,7 +431,7 @@ fn one_shared_owner_among_many_nearly_equal_ones_is_found() {
             let good: [u8; RECORD] = table[other * RECORD..(other + 1) * RECORD].try_into().unwrap();
             let shared: [u8; RECORD] = table[one * RECORD..(one + 1) * RECORD].try_into().unwrap();
             put(&mut table, other, &shared);
-            assert_eq!(check(&table), 3, "{one} and {other}, labels of {longest}");
+            assert_eq!(checked(&table), repeated(other), "{one} and {other}, labels of {longest}");
             put(&mut table, other, &good);
         }
     }
@@ -436,7 +468,8 @@ fn owners_of_which_one_is_part_of_another_are_not_shared() {
     assert_eq!(check(&table), 0);
     for index in 0..table.len() / RECORD {
         let again: [u8; RECORD] = table[index * RECORD..(index + 1) * RECORD].try_into().unwrap();
-        assert_eq!(check(&[&table[..], &again].concat()), 3, "record {index} again");
+        let last = table.len() / RECORD;
+        assert_eq!(checked(&[&table[..], &again].concat()), repeated(last), "record {index} again");
     }
 }
 
@@ -450,7 +483,7 @@ fn owners_in_letters_of_another_case_are_shared() {
                 let mut table = table.clone();
                 put(&mut table, first, &one);
                 put(&mut table, second, &dname_record(&name(owner), &name("another.target")));
-                assert_eq!(check(&table), 3, "{owner} at {first} and {second}");
+                assert_eq!(checked(&table), repeated(second), "{owner} at {first} and {second}");
                 table[second * RECORD + 1] = A6;
                 table[second * RECORD + 2] = 64;
                 assert_eq!(check(&table), 0, "{owner} of A6 at {second}");
@@ -482,7 +515,7 @@ fn an_owner_in_letters_of_another_case_is_found_at_any_place() {
         assert_eq!(check(&table), 0);
         let again = make::in_either_case(&mut random, &table[index * RECORD..(index + 1) * RECORD]);
         put(&mut table, MOST - 1, again[..].try_into().expect("a record"));
-        assert_eq!(check(&table), 3, "record {index} again at the end");
+        assert_eq!(checked(&table), repeated(MOST - 1), "record {index} again at the end");
     }
 }
 
@@ -519,7 +552,7 @@ fn owners_whose_bits_look_like_letters_of_another_case_are_not_shared() {
     assert_eq!(check(&table), 0);
     let mut shared = table.clone();
     shared.copy_within(..RECORD, (MOST - 1) * RECORD);
-    assert_eq!(check(&shared), 3);
+    assert_eq!(checked(&shared), repeated(MOST - 1));
 }
 
 #[test]
@@ -655,12 +688,11 @@ fn generated_tables_are_judged_alike() {
     let mut fields = [0; 7];
     for case in 0..GENERATED {
         make::any_table(&mut random, &mut made, &mut table);
-        let number = check(&table);
+        let (number, place) = checked(&table);
         met.count(number);
-        assert_eq!(number, plain::check(&table), "case {case}");
+        assert_eq!((number, place), plain::check(&table), "case {case}");
         if number == 2 {
-            let fault = table.chunks(RECORD).find_map(plain::fault).expect("some field is at fault");
-            fields[fault as usize] += 1;
+            fields[place[1] as usize] += 1;
         }
         if case % 4 == 0 {
             let records = table.len() / RECORD;
@@ -681,7 +713,7 @@ fn generated_tables_are_judged_alike() {
 /// Tables that are respelt.
 const RESPELT: usize = 50_000;
 
-/// A table respelt earns the same number, and its owners are shown as it spells them.
+/// A table respelt earns the same number at the same place, and its owners are shown as it spells them.
 #[test]
 fn generated_tables_respelt_are_judged_alike() {
     let mut sides = Sides::new();
@@ -692,10 +724,11 @@ fn generated_tables_respelt_are_judged_alike() {
         let records = random.between(1, 6);
         make::good_table(&mut random, &mut made, records, &mut table);
         let respelt = make::in_either_case(&mut random, &table);
-        let number = check(&respelt);
+        let said = checked(&respelt);
+        let number = said.0;
         met.count(number);
-        assert_eq!(number, check(&table), "case {case}");
-        assert_eq!(number, plain::check(&respelt), "case {case}");
+        assert_eq!(said, checked(&table), "case {case}");
+        assert_eq!(said, plain::check(&respelt), "case {case}");
         assert!(plain::same(&table, &respelt), "case {case}");
         let index = random.below(records);
         let slot = &respelt[index * RECORD + OWNER..];
@@ -723,12 +756,11 @@ fn generated_large_tables_are_judged_alike() {
             }
         }
         if random.once_in(4) {
-            let index = random.below(records);
-            make::damage(&mut random, &mut made, &mut table[index * RECORD..(index + 1) * RECORD]);
+            make::damage_one(&mut random, &mut made, &mut table);
         }
-        let number = check(&table);
-        assert_eq!(number, plain::check(&table));
-        met.count(number);
+        let said = checked(&table);
+        assert_eq!(said, plain::check(&table));
+        met.count(said.0);
     }
     met.are("check of large tables", &[0, 1, 2, 3], 5);
 }
@@ -738,7 +770,7 @@ fn generated_large_tables_are_judged_alike() {
 fn the_realistic_table_is_what_it_says() {
     let plan = make::realistic();
     assert_eq!(plan.table.len(), MOST * RECORD);
-    assert_eq!(plain::check(&plan.table), 0);
+    assert_eq!(plain::check(&plan.table).0, 0);
     let owners = |owner: &[u8]| {
         let owns = |record: &&[u8]| {
             record[1] == A6 && record[OWNER] as usize == owner.len() && record[OWNER + 1..].starts_with(owner)

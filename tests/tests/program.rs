@@ -1,12 +1,12 @@
-//! The program `lookup` against the reference (01, Program lookup).
+//! The program `lookup` against the reference (01, Program lookup; T-04).
 
 use a6plan_tests::generate::examples;
 use a6plan_tests::generate::forward::{self as make, Tangle};
 use a6plan_tests::generate::names::{self, Name};
-use a6plan_tests::generate::plan::{self, name};
+use a6plan_tests::generate::plan::{self, break_field, breakable, dname_record, name};
 use a6plan_tests::generate::Random;
 use a6plan_tests::reference::forward as reference;
-use a6plan_tests::reference::plan::RECORD;
+use a6plan_tests::reference::plan::{FIGURES, RECORD};
 use a6plan_tests::tree::repository;
 use std::fs;
 use std::io::Write;
@@ -18,7 +18,7 @@ const RECORDS: usize = 120;
 const LIMIT: u32 = 10_000;
 const ROOM: usize = 64;
 
-/// What the program prints for this input (01, Program lookup).
+/// What the program prints for this input (01, Program lookup): after 2 and 3 also the index and the field (T-04).
 fn printed(input: &[u8]) -> String {
     let refused = |number: u32| format!("refused {number}\n");
     let Some((slot, table)) = input.split_at_checked(256) else { return refused(4) };
@@ -29,17 +29,20 @@ fn printed(input: &[u8]) -> String {
     if table.len() > RECORDS * RECORD {
         return refused(1);
     }
-    let (mut out, mut ttls, mut figures) = ([0; 16 * ROOM], [0; ROOM], [0; 2]);
+    let (mut out, mut ttls, mut figures) = ([0; 16 * ROOM], [0; ROOM], [0; FIGURES]);
     let number = reference::lookup(table, name, LIMIT, &mut out, &mut ttls, &mut figures);
-    if number != 0 {
-        return refused(number);
+    let [count, work, index, field] = figures;
+    match number {
+        0 => {}
+        2 | 3 => return format!("refused {number} {index} {field}\n"),
+        _ => return refused(number),
     }
     let mut text = String::new();
-    for octets in out.chunks(16).take(figures[0] as usize) {
+    for octets in out.chunks(16).take(count as usize) {
         text.extend(octets.iter().map(|octet| format!("{octet:02x}")));
         text.push('\n');
     }
-    text + &format!("done {} {}\n", figures[0], figures[1])
+    text + &format!("done {count} {work}\n")
 }
 
 /// Runs the program on this input and compares all that it prints.
@@ -73,6 +76,14 @@ fn program() -> Option<&'static Path> {
     None
 }
 
+/// The reference and the program, where it is there, print this text for this input.
+fn assert_prints(input: &[u8], text: &str) {
+    assert_eq!(printed(input), text);
+    if let Some(program) = program() {
+        assert_eq!(run(program, input), text);
+    }
+}
+
 /// The input on which the gate runs the program, and README the examples in C and Rust.
 #[test]
 fn the_stored_input_is_01s_host_and_its_prefix() {
@@ -97,11 +108,7 @@ fn the_program_prints_what_01_says() {
         (make::one_name(0, 64).table[1..].to_vec(), "one.name", "refused 1\n"),
     ];
     for (table, name, text) in expected {
-        let input = [slot(&plan::name(name)), table].concat();
-        assert_eq!(printed(&input), text);
-        if let Some(program) = program() {
-            assert_eq!(run(program, &input), text);
-        }
+        assert_prints(&[slot(&plan::name(name)), table].concat(), text);
     }
 }
 
@@ -119,28 +126,53 @@ fn the_program_refuses_in_order() {
     let mut empty_name = [slot(&[]), examples::host()].concat();
     let malformed = [slot(&[3, b'a', 0]), examples::host()].concat();
     let mut inputs = vec![
-        (vec![], 4),
-        (good[..255].to_vec(), 4),
-        (unfilled, 4),
-        (long_unfilled, 4),
-        ([&full[..], &[0]].concat(), 1),
-        (full.repeat(3), 1),
-        ([&good[..], &[0]].concat(), 1),
-        (lasting, 2),
-        (empty_name.clone(), 4),
-        (malformed, 4),
-        (full.clone(), 6),
+        (vec![], "4"),
+        (good[..255].to_vec(), "4"),
+        (unfilled, "4"),
+        (long_unfilled, "4"),
+        ([&full[..], &[0]].concat(), "1"),
+        (full.repeat(3), "1"),
+        ([&good[..], &[0]].concat(), "1"),
+        (lasting, "2 1 6"),
+        (empty_name.clone(), "4"),
+        (malformed, "4"),
+        (full.clone(), "6"),
     ];
     // An empty or malformed name gives way to what is wrong with the table.
     empty_name[256 + 3] = 1;
-    inputs.push((empty_name.clone(), 2));
+    inputs.push((empty_name.clone(), "2 0 2"));
     empty_name.pop();
-    inputs.push((empty_name, 1));
-    for (input, number) in inputs {
-        assert_eq!(printed(&input), format!("refused {number}\n"));
-        if let Some(program) = program() {
-            run(program, &input);
+    inputs.push((empty_name, "1"));
+    for (input, numbers) in inputs {
+        assert_prints(&input, &format!("refused {numbers}\n"));
+    }
+}
+
+/// Each field of the first record, of the last and of one between them; and two DNAMEs with the same owner.
+#[test]
+fn the_program_says_which_record_and_which_field() {
+    let full = examples::loop_of_one().repeat(RECORDS / 2);
+    let put = |table: &mut Vec<u8>, index: usize, record: &[u8]| {
+        table[index * RECORD..(index + 1) * RECORD].copy_from_slice(record);
+    };
+    let dname = dname_record(&name("s.a"), &name("t.a"));
+    for index in [0, 17, RECORDS - 1] {
+        for good in [&full[..RECORD], &dname] {
+            for field in breakable(good) {
+                let mut bad = good.to_vec();
+                break_field(&mut bad, field);
+                let mut table = full.clone();
+                put(&mut table, index, &bad);
+                let text = format!("refused 2 {index} {}\n", field as u32);
+                assert_prints(&[slot(&name("x.a")), table].concat(), &text);
+            }
         }
+    }
+    for (first, second) in [(0, 1), (3, 17), (0, RECORDS - 1)] {
+        let mut table = full.clone();
+        put(&mut table, first, &dname);
+        put(&mut table, second, &dname_record(&name("S.A"), &name("u")));
+        assert_prints(&[slot(&name("x.a")), table].concat(), &format!("refused 3 {second} 4\n"));
     }
 }
 

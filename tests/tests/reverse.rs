@@ -1,4 +1,4 @@
-//! `a6plan_reverse` against the reference, the plain rules and the vectors (01, Reverse names; T-03).
+//! `a6plan_reverse` against the reference, the plain rules and the vectors (01, Reverse names; T-03, T-04).
 
 use a6plan_tests::generate::examples::{address, section_5_2};
 use a6plan_tests::generate::names::{self, Name};
@@ -9,9 +9,8 @@ use a6plan_tests::lent;
 use a6plan_tests::met::Met;
 use a6plan_tests::plain::names::{encode, same, whole, Unit};
 use a6plan_tests::plain::reverse as plain;
-use a6plan_tests::reference::plan::{MOST, RECORD};
-use a6plan_tests::reference::reverse as reference;
-use a6plan_tests::{ffi, text, vectors};
+use a6plan_tests::reference::plan::{FIGURES, MOST, RECORD};
+use a6plan_tests::{text, vectors};
 
 struct Sides(lent::Sides);
 
@@ -20,17 +19,9 @@ impl Sides {
         Sides(lent::Sides::new(600))
     }
 
-    /// The library's number; all that it left is the reference's.
-    fn number(&mut self, table: &[u8], address: &[u8], limit: u8, out: usize, figures: usize) -> u32 {
-        let library = |out: &mut [u8], figures: &mut [u32]| ffi::reverse(table, address, limit, out, figures);
-        let reference = |out: &mut [u8], figures: &mut [u32]| reference::lookup(table, address, limit, out, figures);
-        let about = || format!("{address:02x?} in {} records, limit {limit}", table.len() / RECORD);
-        self.0.number([out, figures], library, reference, about)
-    }
-
-    /// The number with an output of 255 octets and two figures.
+    /// The library's number with an output of 255 octets; all that it left is the reference's.
     fn within(&mut self, table: &[u8], address: &[u8], limit: u8) -> u32 {
-        self.number(table, address, limit, 255, 2)
+        self.0.reverse(table, address, limit, [255, FIGURES])
     }
 
     /// The name and the rewrites that the library left.
@@ -661,7 +652,7 @@ fn assert_same_end(sides: &mut Sides, table: &[u8], respelt: &[u8], address: &[u
         let units = [&end, &other].map(|name| whole(name).expect("a name"));
         assert!(same(&units[0], &units[1]), "{end:02x?} and {other:02x?}");
     }
-    assert_eq!(sides.0.answer(number), plain::lookup(respelt, address, limit, 255, 2), "{address:02x?}");
+    assert_eq!(sides.0.answer(number), plain::lookup(respelt, address, limit, 255, FIGURES), "{address:02x?}");
     number
 }
 
@@ -753,15 +744,15 @@ fn the_first_number_that_is_earned_is_given() {
     for (table, of_table) in &plan::earning(&section_5_2().concat()) {
         for length in [16, 0, 1, 15, 17, 32] {
             for out in [255, 0, 254, 256, 600] {
-                for figures in [2, 0, 1, 3, 4] {
+                for figures in [4, 0, 1, 2, 3, 5] {
                     for limit in [0, 4, 5, 255] {
                         let of_address = if length == 16 { 0 } else { 4 };
-                        let of_output = if out == 255 && figures == 2 { 0 } else { 5 };
+                        let of_output = if out == 255 && figures == 4 { 0 } else { 5 };
                         let of_limit = if limit < 5 { 6 } else { 0 };
                         let earned = [*of_table, of_address, of_output, of_limit];
                         let first = earned.into_iter().find(|number| *number != 0).unwrap_or(0);
                         let octets = [&ADDRESS[..], &ADDRESS].concat();
-                        assert_eq!(sides.number(table, &octets[..length], limit, out, figures), first);
+                        assert_eq!(sides.0.reverse(table, &octets[..length], limit, [out, figures]), first);
                     }
                 }
             }
@@ -804,9 +795,9 @@ fn generated(seed: u64) {
         let address = &mut address[..];
         let address = if random.once_in(24) { &address[..random.below(16)] } else { address };
         let out = if random.once_in(24) { random.pick(&[0, 1, 254, 256, 300]) } else { 255 };
-        let figures = if random.once_in(24) { random.below(5) } else { 2 };
+        let figures = if random.once_in(24) { random.below(7) } else { FIGURES };
         while let Some(limit) = limits.pop() {
-            let number = sides.number(table, address, limit, out, figures);
+            let number = sides.0.reverse(table, address, limit, [out, figures]);
             assert_eq!(sides.0.answer(number), plain::lookup(table, address, limit, out, figures), "case {cases}");
             met.count(number);
             cases += 1;
@@ -814,8 +805,8 @@ fn generated(seed: u64) {
                 let [_, needed] = sides.0.counted();
                 rewrites[needed as usize] += 1;
                 if needed > 0 && limit as u32 != needed - 1 {
-                    assert_eq!(sides.number(table, address, needed as u8 - 1, out, figures), 6);
-                    assert_eq!(sides.number(table, address, needed as u8, out, figures), 0);
+                    assert_eq!(sides.0.reverse(table, address, needed as u8 - 1, [out, figures]), 6);
+                    assert_eq!(sides.0.reverse(table, address, needed as u8, [out, figures]), 0);
                     cases += 2;
                 }
             }
@@ -888,7 +879,7 @@ fn large_tables_agree() {
         }
         for limit in [0, 3, 40] {
             let number = sides.within(&table, &address, limit);
-            assert_eq!(number, plain::lookup(&table, &address, limit, 255, 2).0);
+            assert_eq!(number, plain::lookup(&table, &address, limit, 255, FIGURES).0);
         }
     }
 }

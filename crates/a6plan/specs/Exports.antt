@@ -46,7 +46,7 @@ exportedFigures k a n = outBy k (a .count ∷ a .work ∷ []) n
 unfoldable pub placedFigures : List ℕ → ℕ → List ℕ
 placedFigures figures n = elim (eqb n (length figures)) [ true ↦ figures | false ↦ blank n ]
 
--- the figures of a check: index and field; and of another operation on a table: count, work, index and field
+-- the figures of the check: index and field; those of lookup, reverse and collapse: count, work, index and field
 abbrev pub faultFigures : Fault → List ℕ
 faultFigures f = f .index ∷ f .field ∷ []
 

@@ -77,7 +77,8 @@ pub extern "C" fn a6plan_write_1998(value: &[u8], out: &mut [u8], figures: &mut 
     write_from(value, 16, out, figures)
 }
 
-// Whether a table is in order: 0, or 1, 2 or 3; figures: for 2 and 3 the index of the record and the number of its field, else 0 and 0.
+// Whether a table is in order: 0, or 1, 2 or 3; 5 for one in order where the figures are not two. figures: for 2 and 3 the index of the record and the
+// number of its field, else 0 and 0.
 #[no_mangle]
 pub extern "C" fn a6plan_check(table: &[u8], figures: &mut [u32]) -> u32
     ensures number { λ r. ⌜ r ≡ exportedNumber ofCheck (length (now (figures .entry))) (checkOf (now (table .entry))) ⌝ }

@@ -1,6 +1,6 @@
 -- Demand 1: each public function asks nothing of its caller and promises just what its definition says, for every input; what refuses leaves its
--- output and its figures zero. In a contract κs are the lifetimes of a call, `now x` is what the reference x shows, and `end` and `figured` are the
--- lent output and figures as the call leaves them.
+-- output and its figures zero, but index and field after 2 and 3 (T-04). In a contract κs are the lifetimes of a call, `now x` is what the reference x
+-- shows, and `end` and `figured` are the lent output and figures as the call leaves them.
 use Prim.Native.Nat.{ℕ, zero, suc, _+_, _<_, min}
 use mathlib.Core.Path.{_≡_, refl, _∙_, sym}
 use mathlib.Core.Logic.{_↔_}
@@ -87,7 +87,7 @@ use Rattle.a6plan.proofs.a6plan_lookup.Reads as a6plan-lookup
 use Rattle.a6plan.proofs.a6plan_reverse.Reads as a6plan-reverse
 use Rattle.a6plan.proofs.a6plan_collapse.Reads as a6plan-collapse
 use Rattle.demands.specs.Demand1.{Promises, Cleared, Noughts}
-use Rattle.demands.proofs.Places.{lookup-placed, reverse-placed, collapse-placed}
+use Rattle.demands.proofs.Places.{check-placed, lookup-placed, reverse-placed, collapse-placed}
 
 -- the contract, computed, is the claim itself
 plainly : {P : Type 0} → Unit {0} × (P ↔ P)
@@ -333,8 +333,7 @@ owner-clears t i h = go (eqb (checkOf t) 0) refl (ltb i (countOf t)) refl
     go true e false f = part-past t i (eqb-true (checkOf t) 0 e) (ltb-false i (countOf t) f)
     go true e true f = absurd (h (eqb-true (checkOf t) 0 e, ltb-true i (countOf t) f))
 
--- ---- and so at the C interface: where the number is not 0 every output that was lent is zero, and so are the figures but index and field, which T-04
--- adds to 2 and 3
+-- ---- and so at the C interface: where the number is not 0, every lent output is zero and so are the figures, but index and field after 2 and 3
 zeros : (r : ℕ) (result : List ℕ) (room : ℕ) {end : List ℕ} → (r ≡ 0 → ⊥) → end ≡ outBy r result room → end ≡ blank room
 zeros r result room h e = e ∙ sym (refused-out r r refl h result room)
 
@@ -371,72 +370,63 @@ pub export-owner-clears : (κs : Lfts 2) (table : RefT (List ℕ)) (index : ℕ)
     → a6plan-owner.Learnt κs (table, (index, (figures, tt))) r (table, (index, (figured, tt))) → (r ≡ 0 → ⊥) → now figured ≡ blank (length (now figures))
 export-owner-clears κs table index figures figured r l h = zeros r _ _ h (l .1)
 
--- Of an operation on a table count and work are zero where the number is not 0, and index and field where it is neither 2 nor 3; all four, or however
--- many were lent, where they are not as many as are wanted.
+-- the figures of an operation on a table, by its number k and the one that comes back
 module _ (t : List ℕ) (n k count work r : ℕ) (e : r ≡ exportedNumber ofTable n k) {figures : List ℕ} (f : figures ≡ placedFigures (replyFigures (replying t (answerBy k count work))) n) where
-  fitted : n ≡ 4 → (r ≡ k) × (figures ≡ replyFigures (replying t (answerBy k count work)))
-  fitted h = (e ∙ exported-fit ofTable n k h, f ∙ sym (placed-all _ n h))
-
-  misfitted : (n ≡ 4 → ⊥) → figures ≡ blank n
-  misfitted h = f ∙ sym (placed-none _ n h)
-
-  none-at : (n ≡ 4 → ⊥) → (at : ℕ) → Noughts at figures
-  none-at h at = rw (misfitted h) (getD-blank n at, getD-blank n (at + 1))
-
-  by-places : (at : ℕ) → (n ≡ 4 → Noughts at figures) → Noughts at figures
+  by-places : (at : ℕ) → (r ≡ k → figures ≡ replyFigures (replying t (answerBy k count work)) → Noughts at figures) → Noughts at figures
   by-places at g = go (eqb n 4) refl
     where
       go : (b : Bool) → eqb n 4 ≡ b → Noughts at figures
-      go true h = g (eqb-true n 4 h)
-      go false h = none-at (eqb-false n 4 h) at
+      go true h = let w = eqb-true n 4 h in g (e ∙ exported-fit ofTable n k w) (f ∙ sym (placed-all _ n w))
+      go false h = rw (f ∙ sym (placed-none _ n (eqb-false n 4 h))) (getD-blank n at, getD-blank n (at + 1))
 
   counts-none : (r ≡ 0 → ⊥) → Noughts 0 figures
-  counts-none h = by-places 0 (λ w. let p = fitted w in rw (p .1) (refused-counts k count work (λ z. h (p .0 ∙ z))))
+  counts-none h = by-places 0 (λ p q. rw q (refused-counts k count work (λ z. h (p ∙ z))))
 
   place-none : Placed t k (faultIn t) → (r ≡ 2 → ⊥) → (r ≡ 3 → ⊥) → Noughts 2 figures
-  place-none q g h =
-      by-places 2 (λ w.
-      let p = fitted w in
-      let z = q .other (λ x. g (p .0 ∙ x)) (λ x. h (p .0 ∙ x)) in
-      rw (p .1, z) (refl, refl))
+  place-none w g h = by-places 2 (λ p q. let z = w .other (λ x. g (p ∙ x)) (λ x. h (p ∙ x)) in rw (q, z) (refl, refl))
 
--- of `a6plan_check`, which has no count and no work
-pub export-check-clears : (κs : Lfts 2) (table figures figured : RefT (List ℕ)) (r : ℕ)
-    → a6plan-check.Learnt κs (table, (figures, tt)) r (table, (figured, tt)) → (length (now figures) ≡ 2 → ⊥) → now figured ≡ blank (length (now figures))
-export-check-clears κs table figures figured r l h = l .1 ∙ sym (placed-none _ _ h)
+-- index and field of `a6plan_check` are zero where the number is neither 2 nor 3; it has no count and no work
+pub export-check-unplaced : (κs : Lfts 2) (table figures figured : RefT (List ℕ)) (r : ℕ)
+    → a6plan-check.Learnt κs (table, (figures, tt)) r (table, (figured, tt)) → (r ≡ 2 → ⊥) → (r ≡ 3 → ⊥) → Noughts 0 (now figured)
+export-check-unplaced κs table figures figured r l g h = go (eqb (length (now figures)) 2) refl
+  where
+    go : (b : Bool) → eqb (length (now figures)) 2 ≡ b → Noughts 0 (now figured)
+    go true e =
+        let w = eqb-true (length (now figures)) 2 e in
+        let k = l .0 ∙ exported-fit ofCheck (length (now figures)) (checkOf (now table)) w in
+        let z = check-placed (now table) .other (λ x. g (k ∙ x)) (λ x. h (k ∙ x)) in
+        rw (l .1 ∙ sym (placed-all _ _ w), z) (refl, refl)
+    go false e = rw (l .1 ∙ sym (placed-none _ _ (eqb-false (length (now figures)) 2 e))) (getD-blank (length (now figures)) 0, getD-blank (length (now figures)) 1)
 
--- of `a6plan_lookup`, both lists
+-- `a6plan_lookup`
 module _ (κs : Lfts 5) (table name : RefT (List ℕ)) (limit : ℕ) (out end ttls left figures figured : RefT (List ℕ)) (r : ℕ)
     (l : a6plan-lookup.Learnt κs (table, (name, (limit, (out, (ttls, (figures, tt)))))) r (table, (name, (limit, (end, (left, (figured, tt))))))) where
+  -- both lists of `a6plan_lookup`, count and work are zero where the number is not 0
   pub export-lookup-clears : (r ≡ 0 → ⊥) → (now end ≡ blank (length (now out))) × (now left ≡ blank (length (now ttls))) × Noughts 0 (now figured)
   export-lookup-clears h = (zeros r _ _ h (l .1 .0), zeros r _ _ h (l .1 .1 .0), counts-none (now table) _ _ _ _ r (l .0) (l .1 .1 .1) h)
 
+  -- index and field of `a6plan_lookup` are zero where it is neither 2 nor 3
   pub export-lookup-unplaced : (r ≡ 2 → ⊥) → (r ≡ 3 → ⊥) → Noughts 2 (now figured)
   export-lookup-unplaced = place-none (now table) _ _ _ _ r (l .0) (l .1 .1 .1) (lookup-placed (now table) (now name) limit (length (now out)) (length (now ttls)))
 
-  pub export-lookup-misfit : (length (now figures) ≡ 4 → ⊥) → now figured ≡ blank (length (now figures))
-  export-lookup-misfit = misfitted (now table) _ _ _ _ r (l .0) (l .1 .1 .1)
-
--- of `a6plan_reverse`
+-- `a6plan_reverse`
 module _ (κs : Lfts 4) (table address : RefT (List ℕ)) (limit : ℕ) (out end figures figured : RefT (List ℕ)) (r : ℕ)
     (l : a6plan-reverse.Learnt κs (table, (address, (limit, (out, (figures, tt))))) r (table, (address, (limit, (end, (figured, tt)))))) where
+  -- the output of `a6plan_reverse`, count and work are zero where the number is not 0
   pub export-reverse-clears : (r ≡ 0 → ⊥) → (now end ≡ blank (length (now out))) × Noughts 0 (now figured)
   export-reverse-clears h = (zeros r _ _ h (l .1 .0), counts-none (now table) _ _ _ _ r (l .0) (l .1 .1) h)
 
+  -- index and field of `a6plan_reverse` are zero where it is neither 2 nor 3
   pub export-reverse-unplaced : (r ≡ 2 → ⊥) → (r ≡ 3 → ⊥) → Noughts 2 (now figured)
   export-reverse-unplaced = place-none (now table) _ _ _ _ r (l .0) (l .1 .1) (reverse-placed (now table) (now address) limit (length (now out)))
 
-  pub export-reverse-misfit : (length (now figures) ≡ 4 → ⊥) → now figured ≡ blank (length (now figures))
-  export-reverse-misfit = misfitted (now table) _ _ _ _ r (l .0) (l .1 .1)
-
--- of `a6plan_collapse`
+-- `a6plan_collapse`
 module _ (κs : Lfts 4) (table name : RefT (List ℕ)) (out end figures figured : RefT (List ℕ)) (r : ℕ)
     (l : a6plan-collapse.Learnt κs (table, (name, (out, (figures, tt)))) r (table, (name, (end, (figured, tt))))) where
+  -- the output of `a6plan_collapse`, count and work are zero where the number is not 0
   pub export-collapse-clears : (r ≡ 0 → ⊥) → (now end ≡ blank (length (now out))) × Noughts 0 (now figured)
   export-collapse-clears h = (zeros r _ _ h (l .1 .0), counts-none (now table) _ _ _ _ r (l .0) (l .1 .1) h)
 
+  -- index and field of `a6plan_collapse` are zero where it is neither 2 nor 3
   pub export-collapse-unplaced : (r ≡ 2 → ⊥) → (r ≡ 3 → ⊥) → Noughts 2 (now figured)
   export-collapse-unplaced = place-none (now table) _ _ _ _ r (l .0) (l .1 .1) (collapse-placed (now table) (now name) (length (now out)))
-
-  pub export-collapse-misfit : (length (now figures) ≡ 4 → ⊥) → now figured ≡ blank (length (now figures))
-  export-collapse-misfit = misfitted (now table) _ _ _ _ r (l .0) (l .1 .1)

@@ -64,7 +64,7 @@ answered a out = record { number = a .number; figures = a .count ∷ a .work ∷
 found : Answer → List ℕ → List ℕ → Outcome
 found a out ttls = record { number = a .number; figures = a .count ∷ a .work ∷ []; output = out; ttls = ttls }
 
--- what the public functions give, by their definitions (Demand1)
+-- what the public functions answer and write, by their definitions (Demand1)
 outcome : Input → Outcome
 unfolding answered found
 outcome (lookup table name limit room) =

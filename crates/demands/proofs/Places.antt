@@ -33,7 +33,7 @@ else-none : (k : ℕ) → orElse k 0 ≡ k
 else-none zero = refl
 else-none (suc k) = refl
 
--- the check
+-- the number of the check, with the fault of the table
 pub check-placed : (t : List ℕ) → Placed t (checkOf t) (faultIn t)
 check-placed t = as-placed t (checkOf t) 0 (sym (else-none (checkOf t))) (λ h. omega arith) (λ h. omega arith)
 
@@ -53,19 +53,19 @@ module _ (t name : List ℕ) (p q : ℕ) (b c d : Bool) where
       (not-later 2 (λ e. omega arith) (λ e. omega arith) (λ e. omega arith) (λ e. omega arith) (λ e. omega arith))
       (not-later 3 (λ e. omega arith) (λ e. omega arith) (λ e. omega arith) (λ e. omega arith) (λ e. omega arith))
 
--- lookup: 6 and 7
+-- the number of a lookup, with the fault of the table: 6 and 7 come after the name and the output
 pub lookup-placed : (t name : List ℕ) (limit size room : ℕ) → Placed t (lookupNumber t name limit size room) (faultIn t)
 unfolding lookupNumber search.numberOf
 lookup-placed t name limit size room =
     let g = graphOf t in
     named-placed t name 6 7 (misfit size room) (ltb limit (workOf g name)) (ltb (size / 16) (length (addressesOf g name))) (omega arith) (omega arith)
 
--- collapse: 9 and 7
+-- the number of a collapse, with the fault of the table: 9 and 7 come after them
 pub collapse-placed : (t x : List ℕ) (size : ℕ) → Placed t (numberOf t x size) (faultIn t)
 unfolding numberOf
 collapse-placed t x size = named-placed t x 9 7 (misshapen size) (reviving x t) (passes size (foldOf x t)) (omega arith) (omega arith)
 
--- reverse: an address and an output are judged after the table, and the walk ends with 0, 6 or 8
+-- an address and an output are judged after the table, and the walk ends with 0, 6 or 8
 module _ (t address : List ℕ) (limit room : ℕ) where
   abbrev input : ℕ
   input = earns (not (eqb (length address) addressSize)) 4 (earns (not (eqb room nameRoom)) 5 0)
@@ -77,6 +77,7 @@ module _ (t address : List ℕ) (limit room : ℕ) where
   no-later m n0 n4 n5 n6 n8 =
       else-not m input walk (earns-not m (not (eqb (length address) addressSize)) 4 _ n4 (earns-not m (not (eqb room nameRoom)) 5 0 n5 n0)) (walk-not m n0 n6 n8 limit 0 (rulesOf t) (startOf address))
 
+  -- the number of a reverse lookup, with the fault of the table
   pub reverse-placed : Placed t (endNumber (endOf t address limit room)) (faultIn t)
   unfolding earlyNumber
   reverse-placed =

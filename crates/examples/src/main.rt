@@ -9,7 +9,7 @@
 //     keep, compare                      sets the plan aside; tells whether the plan is the one set aside
 //     ; TEXT                             prints nothing
 //
-// Any other line is printed as it is. The stored script has the examples of RFC 2874, section 5, of 01, and of T-03.
+// Any other line is printed as it is. The stored script has the examples of RFC 2874, section 5, of 01, of T-03 and of T-04.
 ghost use mathlib.Core.Path.{_≡_};
 ghost use Prim.Native.Nat.{_+_, _≤_};
 ghost use lib.ListN.{length};

@@ -1,4 +1,4 @@
--- Lists of octets: zeros, and when two lists are the same.
+-- Lists of octets: zeros, when two lists are the same, and whether a number stands in one.
 use Prim.Native.Nat.{ℕ, _<_}
 use mathlib.Core.Bool.{Bool, true, false, _||_}
 use mathlib.Core.List.{List, [], _∷_, _++_}

@@ -1,5 +1,5 @@
 -- Laws of the number that a table and a given name earn together.
-use Prim.Native.Nat.{ℕ, _≤_, _<_}
+use Prim.Native.Nat.{ℕ, zero, suc, _≤_, _<_}
 use mathlib.Core.Path.{_≡_, refl, ap, sym, _∙_}
 use mathlib.Core.Bool.{Bool, true, false, not}
 use mathlib.Core.List.{List}
@@ -17,6 +17,7 @@ use Rattle.names.proofs.NameLaws.{held-some, held-none, held-part, held-standar
 use Rattle.plan.specs.Check.{checkOf, entryNumber, InOrder}
 use Rattle.plan.specs.Faults.{faultIn}
 use Rattle.plan.specs.declared.inside.Entered.{Entered}
+use Rattle.plan.proofs.OrderLaws.{check-most}
 
 module _ (t name : List ℕ) where
   -- the held name has length 0 exactly when it is malformed
@@ -35,6 +36,16 @@ module _ (t name : List ℕ) where
   pub entry-done : InOrder t → wellFormed name ≡ true → entryNumber t name ≡ 0
   unfolding entryNumber
   entry-done o w = else-later (checkOf t) _ o ∙ rw w
+
+  -- no number but 0 to 4
+  pub entry-most : entryNumber t name ≤ 4
+  unfolding entryNumber
+  entry-most = go (checkOf t) (wellFormed name) (check-most t)
+    where
+      go : (k : ℕ) (b : Bool) → k ≤ 3 → orElse k (earns (not b) 4 0) ≤ 4
+      go zero true h = omega arith
+      go zero false h = omega arith
+      go (suc k) b h = omega arith
 
   -- 0 is earned by a table in order and a well-formed name alone
   pub entry-zero : entryNumber t name ≡ 0 → InOrder t × (wellFormed name ≡ true)

@@ -139,8 +139,8 @@ checks : map checkOf (
 unfolding tables-compute good h64 p0 alias
 checks = refl
 
--- the place of a table's fault (T-04): none in order or by its length; the first of two records at fault, and the first of its two fields; 2 before
--- 3; the second DNAME of three with one owner, past one of another; the DNAME whose twin comes first, not the one that has the smaller owner
+-- the place of a table's fault (T-04): none in order or by its length; the first of two records at fault, and the first of its fields that are; 2 before
+-- 3; the second DNAME of three with one owner, past one of another; the repeat that comes first, though the other one's twin stands earlier
 place : ℕ → ℕ → Fault
 place i f = record { index = i; field = f }
 

@@ -5,12 +5,12 @@ use mathlib.Core.Bool.{Bool, true, false}
 use mathlib.Core.List.{List, [], _∷_, map}
 use mathlib.Core.Logic.{⊎-elim}
 use lib.Dec.{ltb, eqb}
-use lib.ListN.{length, getD, take, drop, set, drop-of-length-le, List·getD-map}
-use lib.Seq.{drop-cons, getD-set-same, getD-set-other, getD-take}
+use lib.ListN.{length, getD, take, set, List·getD-map}
+use lib.Seq.{getD-set-same, getD-set-other, getD-take}
 use native.Mathlib.Omega.{arith}
 use native.Mathlib.Nat.{zero-add, mul-le-mul}
 use native.Mathlib.Numerals.{add-one}
-use borrow.Author.Tests.{lt-ltb, le-ltb, ltb-true, ltb-false, eq-eqb, ne-eqb, eqb-true, eqb-false}
+use borrow.Author.Tests.{lt-ltb, le-ltb, ltb-true, ltb-false, eqb-true, eqb-false}
 use Rattle.octets.specs.Octets.{among}
 use Rattle.names.specs.Standard.{lower, sameName}
 use Rattle.names.proofs.LowerLaws.{lower-ways}

@@ -7,10 +7,10 @@ use mathlib.Core.Logic.{_↔_}
 use lib.Dec.{ltb, eqb}
 use lib.ListN.{length, getD}
 use native.Mathlib.Omega.{arith}
-use borrow.Author.Tests.{eq-eqb, ne-eqb, eqb-true, lt-ltb, le-ltb, ltb-true, ltb-false, not-false}
+use borrow.Author.Tests.{eq-eqb, ne-eqb, eqb-true, lt-ltb, le-ltb, ltb-true, ltb-false}
 use Rattle.octets.specs.Octets.{flat}
+use Rattle.octets.specs.Answers.{earns}
 use Rattle.octets.proofs.AnswerLaws.{earns-zero}
-use Rattle.octets.specs.Answers.{refusal}
 use Rattle.chains.proofs.ListLaws.{both-true}
 use Rattle.names.specs.Standard.{Same, sameName, inStandardForm}
 use Rattle.names.proofs.StandardLaws.{same-name-same, same-same-name}
@@ -18,7 +18,7 @@ use Rattle.names.proofs.RoundLaws.{same-symmetric}
 use Rattle.plan.specs.First.{first, some}
 use Rattle.plan.specs.Layout.{recordSize, maxRecords, dname, typeOf, isDname, countOf, recordAt, ownerAt, ownerOf}
 use Rattle.plan.specs.Records.{typeAt}
-use Rattle.plan.specs.Check.{fieldCount, fieldGood, faultOf, faulty, firstFault, twin, repeats, firstRepeat, Shared, missized, checkOf, checkAnswer, InOrder}
+use Rattle.plan.specs.Check.{fieldCount, fieldGood, faultOf, faulty, firstFault, twin, repeats, firstRepeat, Twins, Shared, missized, checkOf, InOrder}
 use Rattle.plan.specs.Good.{Good}
 use Rattle.plan.proofs.LayoutLaws.{Whole, octets-length, count-octets, record-octets}
 use Rattle.plan.proofs.SlotLaws.{bool-iff}
@@ -81,13 +81,16 @@ module _ (t : List ℕ) where
         unfolding checkOf missized
         number-none h = rw (eq-eqb (length t % recordSize) 0 l, le-ltb maxRecords (countOf t) m, le-ltb (firstFault t) (countOf t) s, le-ltb (firstRepeat t) (countOf t) h)
 
-  pub answer-number : (k : ℕ) → checkOf t ≡ k → refusal k ≡ checkAnswer t
-  unfolding checkAnswer
-  answer-number k h = rw h
-
-  pub number-answer : checkAnswer t .number ≡ checkOf t
-  unfolding checkAnswer
-  number-answer = refl
+-- no number but 0 to 3
+pub check-most : (t : List ℕ) → checkOf t ≤ 3
+unfolding checkOf
+check-most t = go (missized t) (ltb (firstFault t) (countOf t)) (ltb (firstRepeat t) (countOf t))
+  where
+    go : (a b c : Bool) → earns a 1 (earns b 2 (earns c 3 0)) ≤ 3
+    go true b c = omega arith
+    go false true c = omega arith
+    go false false true = omega arith
+    go false false false = omega arith
 
 neither : (a b : Bool) → (not a || b) ≡ false → (a ≡ true) × (b ≡ false)
 neither true b h = (refl, h)
@@ -107,21 +110,32 @@ module _ (t : List ℕ) where
   unfolding firstRepeat
   has-repeat = has-some (repeats t) (countOf t)
 
-  pub repeats-parts : (j : ℕ) → repeats t j ≡ true → (typeAt t j ≡ dname) × (some (twin t j) j ≡ true)
+  repeats-parts : (j : ℕ) → repeats t j ≡ true → (typeAt t j ≡ dname) × (some (twin t j) j ≡ true)
   unfolding repeats
   repeats-parts j h = let p = both-true (isDname (recordAt t j)) (some (twin t j) j) h in (is-type (recordAt t j) (p .0), p .1)
 
-  pub parts-repeats : (j : ℕ) → typeAt t j ≡ dname → some (twin t j) j ≡ true → repeats t j ≡ true
+  parts-repeats : (j : ℕ) → typeAt t j ≡ dname → some (twin t j) j ≡ true → repeats t j ≡ true
   unfolding repeats
   parts-repeats j d e = rw (type-is (recordAt t j) d) e
 
-  pub twin-parts : (j i : ℕ) → twin t j i ≡ true → (typeAt t i ≡ dname) × Same (ownerAt t i) (ownerAt t j)
+  twin-parts : (j i : ℕ) → twin t j i ≡ true → (typeAt t i ≡ dname) × Same (ownerAt t i) (ownerAt t j)
   unfolding twin
   twin-parts j i h = let p = both-true (isDname (recordAt t i)) (sameName (ownerAt t i) (ownerAt t j)) h in (is-type (recordAt t i) (p .0), same-name-same (ownerAt t i) (ownerAt t j) (p .1))
 
-  pub parts-twin : (j i : ℕ) → typeAt t i ≡ dname → Same (ownerAt t i) (ownerAt t j) → twin t j i ≡ true
+  parts-twin : (j i : ℕ) → typeAt t i ≡ dname → Same (ownerAt t i) (ownerAt t j) → twin t j i ≡ true
   unfolding twin
   parts-twin j i d e = rw (type-is (recordAt t i) d) (same-same-name (ownerAt t i) (ownerAt t j) e)
+
+  -- a DNAME that repeats an owner has an earlier twin, and one that has such a twin repeats it
+  pub twins-repeat : (i j : ℕ) → Twins t i j → repeats t j ≡ true
+  twins-repeat i j w = parts-repeats j (w .other) (has-some (twin t j) j i (w .order) (parts-twin j i (w .one) (w .owner)))
+
+  pub repeat-twins : (j : ℕ) → repeats t j ≡ true → (i : ℕ) × Twins t i j
+  repeat-twins j e =
+      let r = repeats-parts j e in
+      let q = some-has (twin t j) j (r .1) in
+      let w = twin-parts j (q .0) (q .2) in
+      (q .0, record { order = q .1; one = w .0; other = r .0; owner = w .1 })
 
 -- DNAMEs that do not repeat an owner
 apart : (t : List ℕ) → firstRepeat t ≡ countOf t → (i j : ℕ) → i < j → j < countOf t → typeAt t i ≡ dname → typeAt t j ≡ dname → sameName (ownerAt t i) (ownerAt t j) ≡ false
@@ -134,21 +148,7 @@ apart t s i j p q d e =
 
 -- Theorem: a DNAME has the owner of an earlier one exactly when two DNAMEs have the same owner
 pub repeat-shared : (t : List ℕ) → (ltb (firstRepeat t) (countOf t) ≡ true) ↔ Shared t
-repeat-shared t = (there, back)
-  where
-    there : ltb (firstRepeat t) (countOf t) ≡ true → Shared t
-    there h =
-        let p = repeat-has t h in
-        let r = repeats-parts t (p .0) (p .2) in
-        let q = some-has (twin t (p .0)) (p .0) (r .1) in
-        let w = twin-parts t (p .0) (q .0) (q .2) in
-        record { first = q .0; second = p .0; there = p .1; twins = record { order = q .1; one = w .0; other = r .0; owner = w .1 } }
-
-    back : Shared t → ltb (firstRepeat t) (countOf t) ≡ true
-    back s =
-        let w = s .twins in
-        let p = parts-twin t (s .second) (s .first) (w .one) (w .owner) in
-        has-repeat t (s .second) (s .there) (parts-repeats t (s .second) (w .other) (has-some (twin t (s .second)) (s .second) (s .first) (w .order) p))
+repeat-shared t = (λ h. let p = repeat-has t h in let w = repeat-twins t (p .0) (p .2) in record { first = w .0; second = p .0; there = p .1; twins = w .1 }, λ s. has-repeat t (s .second) (s .there) (twins-repeat t (s .first) (s .second) (s .twins)))
 
 -- a table in order has whole records, not too many, each of them good, and no two DNAMEs with one owner
 module _ (t : List ℕ) (o : InOrder t) where

@@ -4,7 +4,7 @@ use mathlib.Core.Path.{_≡_, refl, ap, _∙_, sym}
 use mathlib.Core.Bool.{Bool, true, false, not}
 use mathlib.Core.List.{List}
 use mathlib.Core.Logic.{_↔_}
-use lib.Dec.{ltb, eqb}
+use lib.Dec.{ltb}
 use native.Mathlib.Omega.{arith}
 use borrow.Author.Tests.{eq-eqb, ne-eqb, ltb-true, not-true, not-false}
 use Rattle.octets.specs.Answers.{earns, orElse, refusal}
@@ -12,12 +12,12 @@ use Rattle.octets.specs.declared.Answer.{Answer}
 use Rattle.octets.proofs.AnswerLaws.{else-from, else-to}
 use Rattle.octets.proofs.BoolLaws.{clash, refuted}
 use Rattle.plan.specs.Layout.{countOf, recordAt}
-use Rattle.plan.specs.Check.{fieldCount, ownerField, fieldGood, faultOf, faulty, firstFault, twin, repeats, firstRepeat, Twins, missized, checkOf, checkAnswer}
+use Rattle.plan.specs.Check.{fieldCount, ownerField, fieldGood, faultOf, faulty, firstFault, repeats, firstRepeat, missized, checkOf, checkAnswer}
 use Rattle.plan.specs.Faults.{faultPlace, repeatPlace, noPlace, faultIn, replying, FaultAt, RepeatAt, Placed}
 use Rattle.plan.specs.declared.Fault.{Fault}
-use Rattle.plan.proofs.FirstLaws.{from-some, first-before, first-is, some-has, has-some}
+use Rattle.plan.proofs.FirstLaws.{from-some, first-before, first-is}
 use Rattle.plan.proofs.FaultLaws.{fault-none, none-fault}
-use Rattle.plan.proofs.OrderLaws.{faulty-is, faulty-not, is-faulty, not-faulty, repeats-parts, parts-repeats, twin-parts, parts-twin}
+use Rattle.plan.proofs.OrderLaws.{faulty-is, faulty-not, is-faulty, not-faulty, twins-repeat, repeat-twins}
 
 -- the fault of a table, by its number
 module _ (t : List ℕ) where
@@ -114,26 +114,16 @@ module _ (t : List ℕ) where
 
 -- 3's place
 module _ (t : List ℕ) where
-  twins-repeat : (i j : ℕ) → Twins t i j → repeats t j ≡ true
-  twins-repeat i j w = parts-repeats t j (w .other) (has-some (twin t j) j i (w .order) (parts-twin t j i (w .one) (w .owner)))
-
-  repeat-twins : (j : ℕ) → repeats t j ≡ true → (i : ℕ) × Twins t i j
-  repeat-twins j e =
-      let r = repeats-parts t j e in
-      let q = some-has (twin t j) j (r .1) in
-      let w = twin-parts t j (q .0) (q .2) in
-      (q .0, record { order = q .1; one = w .0; other = r .0; owner = w .1 })
-
   repeat-at : firstRepeat t < countOf t → RepeatAt t (firstRepeat t)
   unfolding firstRepeat
   repeat-at h =
-      let w = repeat-twins (firstRepeat t) (from-some (repeats t) 0 (countOf t) (omega arith)) in
-      record { there = h; earlier = w .0; twins = w .1; none = λ i j l w. clash (twins-repeat i j w) (first-before (repeats t) (countOf t) j l) }
+      let w = repeat-twins t (firstRepeat t) (from-some (repeats t) 0 (countOf t) (omega arith)) in
+      record { there = h; earlier = w .0; twins = w .1; none = λ i j l w. clash (twins-repeat t i j w) (first-before (repeats t) (countOf t) j l) }
 
   at-repeat : (i : ℕ) → RepeatAt t i → firstRepeat t ≡ i
   unfolding firstRepeat
   at-repeat i w =
-      first-is (repeats t) (countOf t) i (w .there) (twins-repeat (w .earlier) i (w .twins)) (λ k l. refuted (repeats t k) (λ e. let v = repeat-twins k e in w .none (v .0) k l (v .1)))
+      first-is (repeats t) (countOf t) i (w .there) (twins-repeat t (w .earlier) i (w .twins)) (λ k l. refuted (repeats t k) (λ e. let v = repeat-twins t k e in w .none (v .0) k l (v .1)))
 
   -- Theorem: at 3 it is the owner of the one DNAME that has an earlier twin while none at a smaller index has
   pub place-three : checkOf t ≡ 3 → (i : ℕ) → RepeatAt t i ↔ (faultIn t ≡ record { index = i; field = ownerField })

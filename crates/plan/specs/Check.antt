@@ -1,4 +1,4 @@
--- The check of a table (01, The plan table; What comes back, 1 to 3; T-01).
+-- The check of a table (01, The plan table; What comes back, 1 to 3; T-01; the numbers of the fields: T-04).
 use Prim.Native.Nat.{ℕ, _%_, _<_}
 use mathlib.Core.Path.{_≡_}
 use mathlib.Core.Bool.{Bool, true, false, not, _&&_, _||_}
@@ -72,7 +72,7 @@ faulty t i = ltb (faultOf (recordAt t i)) fieldCount
 unfoldable pub firstFault : List ℕ → ℕ
 firstFault t = first (faulty t) (countOf t)
 
--- record i is a DNAME with the owner of record j
+-- record i is a DNAME with the owner of record j, which it may stand before
 unfoldable pub twin : List ℕ → ℕ → ℕ → Bool
 twin t j i = isDname (recordAt t i) && sameName (ownerAt t i) (ownerAt t j)
 
@@ -109,7 +109,7 @@ checkOf t =
     (earns (ltb (firstFault t) (countOf t)) 2
     (earns (ltb (firstRepeat t) (countOf t)) 3 0))
 
--- the check answers the number alone
+-- the check's answer: the number, and neither count nor work
 abbrev pub checkAnswer : List ℕ → Answer
 checkAnswer t = refusal (checkOf t)
 

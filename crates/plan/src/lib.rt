@@ -1,4 +1,4 @@
-// The plan table: its layout, its check and the owner part (01, The plan table; T-01).
+// The plan table: its layout, its check, which says which record (T-04), and the owner part (01, The plan table; T-01).
 ghost use mathlib.Core.Path.{_≡_};
 ghost use mathlib.Core.Bool.{true};
 ghost use Prim.Native.Nat.{_≤_, _<_};

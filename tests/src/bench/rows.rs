@@ -8,6 +8,7 @@ use crate::generate::plan::{a6_record, name, realistic, worst, MOST, RECORD};
 use crate::generate::{a6, examples, Random};
 use crate::layout::Layout;
 use crate::reference::a6::VALUE;
+use crate::reference::plan::FIGURES;
 use crate::text::grouped;
 use crate::{ffi, reference};
 use std::cell::RefCell;
@@ -81,20 +82,20 @@ pub fn all() -> Vec<Row> {
 // Both sides of the exports.
 
 type Standard = fn(&[u8], &mut [u8], &mut [u32]) -> u32;
-type Check = fn(&[u8]) -> u32;
+type Check = fn(&[u8], &mut [u32]) -> u32;
 type Owner = fn(&[u8], usize, &mut [u32]) -> u32;
 type Lookup = fn(&[u8], &[u8], u32, &mut [u8], &mut [u32], &mut [u32]) -> u32;
 type Reverse = fn(&[u8], &[u8], u8, &mut [u8], &mut [u32]) -> u32;
 type Collapse = fn(&[u8], &[u8], &mut [u8], &mut [u32]) -> u32;
 
-/// Both sides of an export, as `run` calls it with the output and the figures. The sides write to the same memory,
-/// since it matters where that stands.
+/// Both sides of an export, as `run` calls it with an output and figures of these lengths. The sides write to the same
+/// memory, since it matters where that stands.
 fn sides<F: Copy + 'static>(
     exports: [F; 2],
-    length: usize,
+    [out, figures]: [usize; 2],
     run: impl Fn(F, &mut [u8], &mut [u32]) + Copy + 'static,
 ) -> [Side; 2] {
-    let lent = Rc::new(RefCell::new((vec![0; length], [0; 2])));
+    let lent = Rc::new(RefCell::new((vec![0; out], vec![0; figures])));
     exports.map(|export| -> Side {
         let lent = lent.clone();
         Box::new(move || {
@@ -106,7 +107,7 @@ fn sides<F: Copy + 'static>(
 
 fn standard(names: &'static [Vec<u8>]) -> [Side; 2] {
     let exports: [Standard; 2] = [ffi::standard, reference::names::standard];
-    sides(exports, 255, move |standard, out, figures| {
+    sides(exports, [255, 2], move |standard, out, figures| {
         for name in names {
             black_box(standard(black_box(name), out, figures));
         }
@@ -114,7 +115,7 @@ fn standard(names: &'static [Vec<u8>]) -> [Side; 2] {
 }
 
 fn read(layout: Layout, set: &'static [Vec<u8>]) -> [Side; 2] {
-    sides(layout.readers(), VALUE, move |read, value, _| {
+    sides(layout.readers(), [VALUE, 0], move |read, value, _| {
         for data in set {
             black_box(read(black_box(data), value));
         }
@@ -122,7 +123,7 @@ fn read(layout: Layout, set: &'static [Vec<u8>]) -> [Side; 2] {
 }
 
 fn write(layout: Layout, values: &'static [[u8; VALUE]]) -> [Side; 2] {
-    sides(layout.writers(), 272, move |write, out, figures| {
+    sides(layout.writers(), [272, 2], move |write, out, figures| {
         for value in values {
             black_box(write(black_box(value), out, figures));
         }
@@ -131,19 +132,19 @@ fn write(layout: Layout, values: &'static [[u8; VALUE]]) -> [Side; 2] {
 
 fn check(table: &'static [u8]) -> [Side; 2] {
     let exports: [Check; 2] = [ffi::check, reference::plan::check];
-    sides(exports, 0, move |check, _, _| assert_eq!(check(black_box(table)), 0))
+    sides(exports, [0, 2], move |check, _, figures| assert_eq!(check(black_box(table), figures), 0))
 }
 
 fn owner(table: &'static [u8], index: usize) -> [Side; 2] {
     let exports: [Owner; 2] = [ffi::owner, reference::plan::owner];
-    sides(exports, 0, move |owner, _, figures| assert_eq!(owner(black_box(table), black_box(index), figures), 0))
+    sides(exports, [0, 2], move |owner, _, figures| assert_eq!(owner(black_box(table), black_box(index), figures), 0))
 }
 
 /// Lookups that give this number.
 fn lookup(table: &'static [u8], names: &'static [Vec<u8>], limit: u32, number: u32) -> [Side; 2] {
     let exports: [Lookup; 2] = [ffi::lookup, reference::forward::lookup];
     let ttls = keep(RefCell::new([0; ROOM]));
-    sides(exports, 16 * ROOM, move |lookup, out, figures| {
+    sides(exports, [16 * ROOM, FIGURES], move |lookup, out, figures| {
         for name in names {
             let ttls = &mut *ttls.borrow_mut();
             assert_eq!(lookup(black_box(table), black_box(name), limit, out, ttls, figures), number);
@@ -154,7 +155,7 @@ fn lookup(table: &'static [u8], names: &'static [Vec<u8>], limit: u32, number: u
 /// Walks of so many rewrites.
 fn reverse(table: &'static [u8], addresses: &'static [[u8; 16]], rewrites: u32) -> [Side; 2] {
     let exports: [Reverse; 2] = [ffi::reverse, reference::reverse::lookup];
-    sides(exports, 255, move |reverse, out, figures| {
+    sides(exports, [255, FIGURES], move |reverse, out, figures| {
         for address in addresses {
             assert_eq!(reverse(black_box(table), black_box(address), 255, out, figures), 0);
             assert_eq!(figures[1], rewrites);
@@ -165,7 +166,7 @@ fn reverse(table: &'static [u8], addresses: &'static [[u8; 16]], rewrites: u32) 
 /// Collapses that leave as many records as there are.
 fn collapse(table: &'static [u8], names: &'static [Vec<u8>]) -> [Side; 2] {
     let exports: [Collapse; 2] = [ffi::collapse, reference::collapse::collapse];
-    sides(exports, table.len(), move |collapse, out, figures| {
+    sides(exports, [table.len(), FIGURES], move |collapse, out, figures| {
         for name in names {
             assert_eq!(collapse(black_box(table), black_box(name), out, figures), 0);
             assert_eq!(figures[0] as usize, table.len() / RECORD);
@@ -209,7 +210,7 @@ impl Rows {
     /// call with limit 0 does alone, is not counted.
     fn chain(&mut self, subject: impl Into<String>, graph: Tangle) {
         let Tangle { table, names } = keep(graph);
-        let (mut out, mut ttls, mut figures) = ([0; 16 * ROOM], [0; ROOM], [0; 2]);
+        let (mut out, mut ttls, mut figures) = ([0; 16 * ROOM], [0; ROOM], [0; FIGURES]);
         let number = reference::forward::lookup(table, &names[0], CHAINS, &mut out, &mut ttls, &mut figures);
         let parts = if number == 6 { CHAINS } else { figures[1] } as usize;
         let sides = lookup(table, &names[..1], CHAINS, number);

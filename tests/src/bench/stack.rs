@@ -1,6 +1,7 @@
 //! In how small a stack a call comes back that calls itself deeply.
 
 use crate::generate::plan::{a6_record, dname_record, name};
+use crate::reference::plan::FIGURES;
 use crate::{ffi, reference};
 use std::env;
 use std::process::{Command, Stdio};
@@ -51,13 +52,13 @@ pub fn try_one(words: &[String]) {
 
 fn look_up(side: usize, records: usize, table: &[u8], name: &[u8]) {
     let lookup = [ffi::lookup, reference::forward::lookup][side];
-    let (mut out, mut ttls, mut figures) = (vec![0; 16], vec![0; 1], vec![0; 2]);
+    let (mut out, mut ttls, mut figures) = (vec![0; 16], vec![0; 1], vec![0; FIGURES]);
     assert_eq!(lookup(table, name, records as u32, &mut out, &mut ttls, &mut figures), 0);
 }
 
 fn walk(side: usize, rewrites: usize, table: &[u8], address: &[u8]) {
     let reverse = [ffi::reverse, reference::reverse::lookup][side];
-    let (mut out, mut figures) = (vec![0; 255], vec![0; 2]);
+    let (mut out, mut figures) = (vec![0; 255], vec![0; FIGURES]);
     assert_eq!(reverse(table, address, rewrites as u8, &mut out, &mut figures), 0);
     assert_eq!(figures[1] as usize, rewrites);
 }

@@ -2,6 +2,7 @@
 
 use super::names::{self, Name};
 use super::{a6, Random};
+use crate::plain::plan::Field;
 
 pub const RECORD: usize = 536;
 pub const MOST: usize = 1024;
@@ -331,9 +332,9 @@ pub fn good_table(random: &mut Random, made: &mut Name, records: usize, table: &
     }
 }
 
-/// A small table, good or damaged in some way.
+/// A small table, good or damaged in some way: one record, mostly, or several.
 pub fn any_table(random: &mut Random, made: &mut Name, table: &mut Vec<u8>) {
-    let records = random.pick(&[0, 1, 1, 1, 2, 2, 2, 2, 3, 3, 4, 6]);
+    let records = random.pick(&[0, 1, 1, 1, 2, 2, 2, 3, 3, 4, 6, 9]);
     good_table(random, made, records, table);
     if random.once_in(3) {
         return;
@@ -345,8 +346,8 @@ pub fn any_table(random: &mut Random, made: &mut Name, table: &mut Vec<u8>) {
             _ => table.extend([0; RECORD - 1]),
         }
     }
-    if let Some(record) = table.chunks_exact_mut(RECORD).nth(random.below(records.max(1))) {
-        damage(random, made, record);
+    for _ in 0..random.pick(&[1, 1, 1, 2, 3]) {
+        damage_one(random, made, table);
     }
 }
 
@@ -375,12 +376,7 @@ pub fn spoil(random: &mut Random, made: &mut Name, table: &mut Vec<u8>) {
     match random.below(24) {
         0 => table.truncate(random.below(table.len() + 1)),
         1 => table.extend(vec![0; random.between(1, 40)]),
-        2 | 3 => {
-            let records = table.len() / RECORD;
-            if let Some(record) = table.chunks_exact_mut(RECORD).nth(random.below(records.max(1))) {
-                damage(random, made, record);
-            }
-        }
+        2 | 3 => damage_one(random, made, table),
         4 => {
             for owner in ["twice", random.pick(&["twice", "TWIce"])] {
                 table.extend(dname_record(&name(owner), &name("t")));
@@ -390,8 +386,37 @@ pub fn spoil(random: &mut Random, made: &mut Name, table: &mut Vec<u8>) {
     }
 }
 
+/// The fields of a good record that can be broken: the address of a finished A6 record may be any.
+pub fn breakable(record: &[u8]) -> Vec<Field> {
+    let finished = record[1] == A6 && record[2] == 0;
+    Field::ALL.into_iter().filter(|field| !finished || *field != Field::Address).collect()
+}
+
+/// Breaks this field of a good record, one of `breakable`, and none before it.
+pub fn break_field(record: &mut [u8], field: Field) {
+    match field {
+        Field::Type => record[0] = 1,
+        Field::Length => record[2] = 129,
+        Field::Zero => record[3] = 1,
+        Field::Address => record[4] |= 128,
+        Field::Owner => record[OWNER] ^= 1,
+        Field::Target => record[TARGET] ^= 1,
+        Field::Ttl => record[TTL] |= 128,
+    }
+}
+
+/// Damages some record of a table, if it has one, in one field, mostly, or several.
+pub fn damage_one(random: &mut Random, made: &mut Name, table: &mut [u8]) {
+    let records = table.len() / RECORD;
+    if let Some(record) = table.chunks_exact_mut(RECORD).nth(random.below(records.max(1))) {
+        for _ in 0..random.pick(&[1, 1, 1, 2, 3]) {
+            damage(random, made, record);
+        }
+    }
+}
+
 /// Damages one field of a record. What comes of it may happen to keep the layout.
-pub fn damage(random: &mut Random, made: &mut Name, record: &mut [u8]) {
+fn damage(random: &mut Random, made: &mut Name, record: &mut [u8]) {
     let slot = random.pick(&[OWNER, TARGET]);
     let named = record[slot] as usize;
     let length = record[2] as usize;

@@ -2,7 +2,7 @@
 
 use super::names::{self, Unit};
 use super::plan::RECORD;
-use super::{answer, demand, plan, Answer};
+use super::{demand, plan, table_answer, Answer};
 
 /// A record: its octets and what they say.
 struct Record<'a> {
@@ -99,9 +99,8 @@ impl Plan<'_> {
 /// The answer of `a6plan_collapse` for an output and figures of these lengths.
 pub fn collapse(table: &[u8], name: &[u8], out: usize, figures: usize) -> Answer {
     let given = || {
-        plan::in_order(table)?;
         let name = names::whole(name).ok_or(4_u32)?;
-        demand(5, out.is_multiple_of(RECORD) && figures == 2)?;
+        demand(5, out.is_multiple_of(RECORD) && figures == 4)?;
         let plan = Plan::new(table);
         demand(9, !plan.is_reviving(&name))?;
         let folded = plan.fold(&name);
@@ -109,5 +108,5 @@ pub fn collapse(table: &[u8], name: &[u8], out: usize, figures: usize) -> Answer
         demand(7, folded.len() <= out && records <= 1024)?;
         Ok((folded, [records as u32, 0]))
     };
-    answer(given(), out, figures)
+    table_answer(table, given, out, figures)
 }

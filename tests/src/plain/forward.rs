@@ -3,7 +3,7 @@
 //! point.
 
 use super::names::{self, Unit};
-use super::{answer, demand, plan, Answer};
+use super::{demand, plan, table_answer, Answer};
 use std::collections::{BTreeMap, BTreeSet, HashSet};
 
 /// An A6 record. Names are numbers in the list of those in the table.
@@ -162,7 +162,7 @@ impl Graph {
 }
 
 /// Every list of different numbers below `size`, the empty one too.
-fn arrangements(size: usize) -> Vec<Vec<usize>> {
+pub fn arrangements(size: usize) -> Vec<Vec<usize>> {
     let mut lists = vec![vec![]];
     let mut at = 0;
     while at < lists.len() {
@@ -180,10 +180,9 @@ fn arrangements(size: usize) -> Vec<Vec<usize>> {
 /// limit is one that counting can reach.
 pub fn lookup(table: &[u8], name: &[u8], limit: u32, [out, ttls, figures]: [usize; 3]) -> (Answer, Vec<u32>) {
     let mut left = vec![0; ttls];
-    let mut given = || {
-        plan::in_order(table)?;
+    let given = || {
         let name = names::whole(name).ok_or(4_u32)?;
-        demand(5, out.is_multiple_of(16) && ttls == out / 16 && figures == 2)?;
+        demand(5, out.is_multiple_of(16) && ttls == out / 16 && figures == 4)?;
         let graph = Graph::new(table);
         let (work, least) = graph.chains(&name, limit as usize).ok_or(6_u32)?;
         let addresses = graph.addresses(&name);
@@ -194,5 +193,5 @@ pub fn lookup(table: &[u8], name: &[u8], limit: u32, [out, ttls, figures]: [usiz
         let octets = addresses.iter().flat_map(|address| address.to_be_bytes()).collect();
         Ok((octets, [addresses.len() as u32, work as u32]))
     };
-    (answer(given(), out, figures), left)
+    (table_answer(table, given, out, figures), left)
 }

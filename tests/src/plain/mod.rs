@@ -23,6 +23,20 @@ fn answer(given: Result<(Vec<u8>, [u32; 2]), u32>, out: usize, figures: usize) -
     }
 }
 
+/// The answer of an operation on a table: where that is in order, the one of a call that gives this, with the place of
+/// the table's fault after the two figures if there are four (T-04).
+fn table_answer(
+    table: &[u8],
+    given: impl FnOnce() -> Result<(Vec<u8>, [u32; 2]), u32>,
+    out: usize,
+    figures: usize,
+) -> Answer {
+    let (number, place) = plan::check(table);
+    let (number, octets, counted) = answer(demand(number, number == 0).and_then(|_| given()), out, 2);
+    let all = [&counted[..], &place].concat();
+    (number, octets, if figures == 4 { all } else { vec![0; figures] })
+}
+
 /// Refuses with the number unless the test passes.
 fn demand(number: u32, test: bool) -> Result<(), u32> {
     if test {

@@ -1,7 +1,7 @@
 //! Reverse names (01, Reverse names; T-03) as lists of units.
 
 use super::names::{self, Unit};
-use super::{answer, demand, plan, Answer};
+use super::{demand, plan, table_answer, Answer};
 
 /// The units of the name that stands for an address: its bits, the lowest first, then IP6 and ARPA in capitals.
 pub fn start(address: &[u8]) -> Vec<Unit> {
@@ -58,13 +58,12 @@ pub fn walk(dnames: &[Dname], start: Vec<Unit>, limit: u8) -> Result<(Vec<Unit>,
 /// The answer of `a6plan_reverse` for an output and figures of these lengths.
 pub fn lookup(table: &[u8], address: &[u8], limit: u8, out: usize, figures: usize) -> Answer {
     let given = || {
-        plan::in_order(table)?;
         demand(4, address.len() == 16)?;
-        demand(5, out == 255 && figures == 2)?;
+        demand(5, out == 255 && figures == 4)?;
         let (name, rewrites) = walk(&dnames(table), start(address), limit)?;
         let octets = names::encode(&name);
         let length = octets.len() as u32;
         Ok((octets, [length, rewrites]))
     };
-    answer(given(), out, figures)
+    table_answer(table, given, out, figures)
 }

@@ -1,10 +1,10 @@
-//! Collapse of a name (01, Collapse of a name X; T-03).
+//! Collapse of a name (01, Collapse of a name X; T-03, T-04).
 //!
 //! One pass checks the table, notes where the A6 records of each owner stand, and finds the shortest record that refers
 //! to the name. The records to be folded are then known by their places; all between them is copied in one piece.
 
 use super::names;
-use super::plan::{self, Index, A6, FIRST, MOST, RECORD};
+use super::plan::{self, Index, A6, FIGURES, FIRST, MOST, RECORD};
 
 /// The records that take the place of this one: those of its target that are no longer.
 #[inline(always)]
@@ -20,9 +20,10 @@ fn copy(octets: &[u8], out: &mut [u8]) -> usize {
     octets.len()
 }
 
-/// The answer of `a6plan_collapse`: 1 to 3 for the table, 4 for a malformed name, 5 for an output not of whole records
-/// or figures not of two, 9 where a record that refers to the name is shorter than one to be folded, 7 where the
-/// records pass the room or 1,024, then 0 with the records, zeros after them, and their number and 0.
+/// The answer of `a6plan_collapse`: 1 to 3 for the table, with the place of its fault, 4 for a malformed name, 5 for an
+/// output not of whole records or figures not of four, 9 where a record that refers to the name is shorter than one to
+/// be folded, 7 where the records pass the room or 1,024, then 0 with the records, zeros after them, and their number
+/// and 0.
 #[inline(never)]
 pub fn collapse(table: &[u8], name: &[u8], out: &mut [u8], figures: &mut [u32]) -> u32 {
     out.fill(0);
@@ -31,7 +32,7 @@ pub fn collapse(table: &[u8], name: &[u8], out: &mut [u8], figures: &mut [u32]) 
     let name = names::slot_of(name);
     let mut index = Index::new();
     let mut shortest = u8::MAX;
-    let number = plan::check_and(table, |at, record| {
+    let checked = plan::check_and(table, |at, record| {
         if plan::type_of(record) != A6 {
             return;
         }
@@ -41,11 +42,11 @@ pub fn collapse(table: &[u8], name: &[u8], out: &mut [u8], figures: &mut [u32]) 
             shortest = length;
         }
     });
-    if number != 0 {
-        return number;
+    if let Err(fault) = checked {
+        return fault.refuse(figures, FIGURES);
     }
     let Some(name) = name else { return 4 };
-    if !out.len().is_multiple_of(RECORD) || figures.len() != 2 {
+    if !out.len().is_multiple_of(RECORD) || figures.len() != FIGURES {
         return 5;
     }
     let unfinished = || index.owned(table, &name).filter(|at| plan::length_of(plan::record(table, *at)) > 0);

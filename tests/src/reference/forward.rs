@@ -1,4 +1,4 @@
-//! Address lookup (01, Chains; T-01, T-03): the addresses of a name, how long each lasts, and the work.
+//! Address lookup (01, Chains; T-01, T-03, T-04): the addresses of a name, how long each lasts, and the work.
 //!
 //! One pass checks the table and notes where the A6 records of each owner stand. The records that the given name leads
 //! to are numbered as they are met, those of a name in a ring by rising prefix length. From there on names, octets and
@@ -6,7 +6,7 @@
 //! steps is a chain. The least TTL of the chain goes along.
 
 use super::names::{self, SLOT};
-use super::plan::{self, Index, A6, FIRST, MOST};
+use super::plan::{self, Index, A6, FIGURES, FIRST, MOST};
 
 /// Places in the rings: a record each, a mark for each name that owns one, and one for the names that own nothing.
 const PLACES: usize = 2 * MOST + 1;
@@ -207,26 +207,27 @@ impl Search {
     }
 }
 
-/// The answer of `a6plan_lookup`: 1 to 3 for the table, 4 for a malformed name, 5 for an output not of whole addresses,
-/// TTLs not as many as those or figures not of two, 6 where the work passes the limit, 7 where the addresses pass the
-/// room, then 0 with the addresses in rising order and their TTLs, zeros after both, and their count and the work.
+/// The answer of `a6plan_lookup`: 1 to 3 for the table, with the place of its fault, 4 for a malformed name, 5 for an
+/// output not of whole addresses, TTLs not as many as those or figures not of four, 6 where the work passes the limit, 7
+/// where the addresses pass the room, then 0 with the addresses in rising order and their TTLs, zeros after both, and
+/// their count and the work.
 #[inline(never)]
 pub fn lookup(table: &[u8], name: &[u8], limit: u32, out: &mut [u8], ttls: &mut [u32], figures: &mut [u32]) -> u32 {
     out.fill(0);
     ttls.fill(0);
     figures.fill(0);
     let mut index = Index::new();
-    let number = plan::check_and(table, |at, record| {
+    let checked = plan::check_and(table, |at, record| {
         if plan::type_of(record) == A6 {
             index.add(at, record);
         }
     });
-    if number != 0 {
-        return number;
+    if let Err(fault) = checked {
+        return fault.refuse(figures, FIGURES);
     }
     let Some(name) = names::slot_of(name) else { return 4 };
     let (addresses, []) = out.as_chunks_mut() else { return 5 };
-    if ttls.len() != addresses.len() || figures.len() != 2 {
+    if ttls.len() != addresses.len() || figures.len() != FIGURES {
         return 5;
     }
     let mut search = Search { rings: Rings::new(), left: limit, found: Found::new(ttls.len()) };
@@ -239,7 +240,7 @@ pub fn lookup(table: &[u8], name: &[u8], limit: u32, out: &mut [u8], ttls: &mut 
     }
     let mut found = search.found.lasting;
     found.sort_unstable();
-    figures.copy_from_slice(&[found.len() as u32, limit - search.left]);
+    figures[..2].copy_from_slice(&[found.len() as u32, limit - search.left]);
     for (at, (address, ttl)) in found.into_iter().enumerate() {
         addresses[at] = address.to_be_bytes();
         ttls[at] = ttl;

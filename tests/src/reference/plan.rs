@@ -1,4 +1,4 @@
-//! The plan table (01, The plan table; T-03): its check, the owner part, and where the records of a name stand.
+//! The plan table (01, The plan table; T-03, T-04): its check, the owner part, and where the records of a name stand.
 
 use super::names::{self, same, unusual, SLOT, USUAL};
 
@@ -6,6 +6,8 @@ use super::names::{self, same, unusual, SLOT, USUAL};
 pub const RECORD: usize = 536;
 /// The most records in a table.
 pub const MOST: usize = 1024;
+/// Figures of an operation on a table: two of its own, then the index of the record at fault and its field.
+pub const FIGURES: usize = 4;
 /// Where the fields of a record stand.
 const LENGTH: usize = 2;
 const ZERO: usize = 3;
@@ -84,24 +86,53 @@ pub fn record(table: &[u8], index: usize) -> &[u8] {
     &table[index * RECORD..(index + 1) * RECORD]
 }
 
-/// The record keeps the layout.
+/// The number of the owner among the fields.
+const OWNER_FIELD: u32 = 4;
+
+/// The first field of a record that breaks the layout, by its number (T-04): type 0, length 1, zero octet 2, address 3,
+/// owner 4, target 5, TTL 6.
 #[inline(always)]
-fn keeps_layout(record: &[u8]) -> bool {
-    let kind = type_of(record);
-    let length = length_of(record);
-    let address = address_of(record);
-    let first = match (kind, length) {
-        (A6, 0) => 0,
-        (A6, 1..=128) => address >> (128 - length),
-        (DNAME, 0) => address,
-        _ => return false,
+fn broken_field(record: &[u8]) -> Option<u32> {
+    let (kind, length) = (type_of(record), length_of(record));
+    let (longest, zeros) = match kind {
+        A6 => (128, length),
+        DNAME => (0, 128),
+        _ => return Some(0),
     };
+    if length > longest {
+        return Some(1);
+    }
+    if record[ZERO] != 0 {
+        return Some(2);
+    }
+    if address_of(record) & FIRST[zeros as usize] != 0 {
+        return Some(3);
+    }
+    if names::in_slot(owner_of(record)).is_none() {
+        return Some(OWNER_FIELD);
+    }
     let target = target_of(record);
-    first == 0
-        && record[ZERO] == 0
-        && names::in_slot(owner_of(record)).is_some()
-        && if kind == A6 && length == 0 { names::is_blank(target) } else { names::in_slot(target).is_some() }
-        && ttl_of(record) <= LONGEST
+    let good = if zeros == 0 { names::is_blank(target) } else { names::in_slot(target).is_some() };
+    if !good {
+        return Some(5);
+    }
+    (ttl_of(record) > LONGEST).then_some(6)
+}
+
+/// What is wrong with a table: its number, and for 2 and 3 the index of the record and its field, for 1 zeros.
+pub struct Fault {
+    number: u32,
+    place: [u32; 2],
+}
+
+impl Fault {
+    /// The number, with the place in the last two figures where there are as many as are wanted.
+    pub fn refuse(&self, figures: &mut [u32], wanted: usize) -> u32 {
+        if figures.len() == wanted {
+            figures[wanted - 2..].copy_from_slice(&self.place);
+        }
+        self.number
+    }
 }
 
 /// Places in a list of owners; a power of two, and twice the most records.
@@ -249,35 +280,41 @@ impl Iterator for Owned<'_> {
     }
 }
 
-/// The answer of `a6plan_check`, with a look at each record from the first on, up to one that breaks the layout.
+/// Whether a table is in order, with a look at each record from the first on, up to one that breaks the layout: 1 for a
+/// length that is no multiple of a record or too many records, 2 for a record that breaks the layout, 3 for two DNAMEs
+/// with one owner.
 #[inline(always)]
-pub fn check_and(table: &[u8], mut look: impl FnMut(usize, &[u8])) -> u32 {
+pub fn check_and(table: &[u8], mut look: impl FnMut(usize, &[u8])) -> Result<(), Fault> {
     if !table.len().is_multiple_of(RECORD) || table.len() > MOST * RECORD {
-        return 1;
+        return Err(Fault { number: 1, place: [0, 0] });
     }
     let mut owners = Owners::new();
-    let mut differ = true;
+    let mut repeated = None;
     for (index, record) in table.chunks_exact(RECORD).enumerate() {
-        if !keeps_layout(record) {
-            return 2;
+        if let Some(field) = broken_field(record) {
+            return Err(Fault { number: 2, place: [index as u32, field] });
         }
-        if type_of(record) == DNAME {
-            differ &= owners.add(table, index);
+        if type_of(record) == DNAME && !owners.add(table, index) {
+            repeated = repeated.or(Some(index));
         }
         look(index, record);
     }
-    if differ {
-        0
-    } else {
-        3
+    match repeated {
+        Some(index) => Err(Fault { number: 3, place: [index as u32, OWNER_FIELD] }),
+        None => Ok(()),
     }
 }
 
-/// The answer of `a6plan_check`: 1 for a length that is no multiple of a record or too many records, 2 for a record
-/// that breaks the layout, 3 for two DNAMEs with one owner, else 0.
+/// The answer of `a6plan_check`: 1 to 3 for the table, with the index of the record at fault and its field, 5 for
+/// figures not of two, else 0.
 #[inline(never)]
-pub fn check(table: &[u8]) -> u32 {
-    check_and(table, |_, _| {})
+pub fn check(table: &[u8], figures: &mut [u32]) -> u32 {
+    figures.fill(0);
+    match check_and(table, |_, _| {}) {
+        Err(fault) => fault.refuse(figures, 2),
+        Ok(()) if figures.len() != 2 => 5,
+        Ok(()) => 0,
+    }
 }
 
 /// The answer of `a6plan_owner`: 5 for figures not of two, else 0, with offset and length of the owner's octets, or
@@ -288,7 +325,7 @@ pub fn owner(table: &[u8], index: usize, figures: &mut [u32]) -> u32 {
     if figures.len() != 2 {
         return 5;
     }
-    if check(table) == 0 && index < table.len() / RECORD {
+    if check_and(table, |_, _| {}).is_ok() && index < table.len() / RECORD {
         let slot = index * RECORD + OWNER;
         figures[0] = slot as u32 + 1;
         figures[1] = table[slot] as u32;

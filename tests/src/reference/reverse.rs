@@ -1,10 +1,10 @@
-//! Reverse lookup (01, Reverse names; T-03): the walk from an address by DNAMEs.
+//! Reverse lookup (01, Reverse names; T-03, T-04): the walk from an address by DNAMEs.
 //!
 //! Names stay in standard form, so the labels of an owner stand at the end of a name beneath it, letters in either case,
 //! all but the lowest where that is a bit label: its bits are then the first ones of the name's bit label at that place.
 
 use super::names::{bits_of, name_in, same_labels, Bits, BIT_LABEL, NAME, RUN};
-use super::plan::{self, DNAME};
+use super::plan::{self, DNAME, FIGURES};
 
 /// Octets of a bit label with so many bits.
 #[inline(always)]
@@ -140,26 +140,26 @@ impl Name {
     }
 }
 
-/// The answer of `a6plan_reverse`: 1 to 3 for the table, 4 for an address not of sixteen octets, 5 for an output not
-/// of 255 or figures not of two, then for each rewrite 6 where none is left and 8 where it gives too much, then 0 with
-/// the last name, zeros after it, and its length and the rewrites.
+/// The answer of `a6plan_reverse`: 1 to 3 for the table, with the place of its fault, 4 for an address not of sixteen
+/// octets, 5 for an output not of 255 or figures not of four, then for each rewrite 6 where none is left and 8 where it
+/// gives too much, then 0 with the last name, zeros after it, and its length and the rewrites.
 #[inline(never)]
 pub fn lookup(table: &[u8], address: &[u8], limit: u8, out: &mut [u8], figures: &mut [u32]) -> u32 {
     out.fill(0);
     figures.fill(0);
     let mut dnames = Vec::with_capacity(64);
-    let number = plan::check_and(table, |index, record| {
+    let checked = plan::check_and(table, |index, record| {
         if plan::type_of(record) == DNAME {
             dnames.push(Dname::new(index, record));
         }
     });
-    if number != 0 {
-        return number;
+    if let Err(fault) = checked {
+        return fault.refuse(figures, FIGURES);
     }
     if address.len() != 16 {
         return 4;
     }
-    if out.len() != NAME || figures.len() != 2 {
+    if out.len() != NAME || figures.len() != FIGURES {
         return 5;
     }
     let mut name = Name::new(&[&[BIT_LABEL, 128], address, &[3], b"IP6", &[4], b"ARPA", &[0]]);
@@ -176,6 +176,6 @@ pub fn lookup(table: &[u8], address: &[u8], limit: u8, out: &mut [u8], figures: 
         rewrites += 1;
     }
     out.copy_from_slice(&name.octets);
-    figures.copy_from_slice(&[name.length as u32, rewrites]);
+    figures[..2].copy_from_slice(&[name.length as u32, rewrites]);
     0
 }

@@ -1,6 +1,5 @@
 -- `a6plan::a6plan_check` meets its contract: the number is the one that the check replies, and the figures are the fault beside it.
-use Prim.Native.Nat.{ℕ}
-use mathlib.Core.Path.{_≡_, ap, _∙_}
+use mathlib.Core.Path.{ap, _∙_}
 use lib.ListN.{length}
 use borrow.Author.Needs.{needs}
 use Rattle.plan.specs.declared.Reply.{Reply}

@@ -1,7 +1,6 @@
 -- `a6plan::a6plan_standard` meets its contract: the answer and the output of the operation, by the exported number.
 use lib.ListN.{length}
 use borrow.Author.Needs.{needs}
-use Rattle.octets.specs.Octets.{among}
 use Rattle.a6plan.specs.Exports.{ofName}
 use Rattle.a6plan.proofs.ExportLaws.{refuses-name, exported-number, exported-out, exported-figures}
 use Rattle.a6plan.proofs.a6plan_standard.Statement.{statement}

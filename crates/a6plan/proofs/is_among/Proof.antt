@@ -1,5 +1,5 @@
 -- `a6plan::is_among` meets its contract: the number stands in the list where it stands in what is left of it.
-use Prim.Native.Nat.{_+_, _-_, _≤_}
+use Prim.Native.Nat.{_-_, _≤_}
 use mathlib.Core.Path.{_≡_, refl, _∙_, sym}
 use lib.ListN.{length, drop}
 use native.Mathlib.Omega.{arith}

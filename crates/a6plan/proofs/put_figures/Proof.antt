@@ -1,5 +1,5 @@
--- `a6plan::put_figures` meets its contract: the figures in front are put, the places after them are as they were.
-use Prim.Native.Nat.{_+_, _-_, _≤_}
+-- `a6plan::put_figures` meets its contract: figures are put where there are as many places, one after the other; else there are zeros.
+use Prim.Native.Nat.{_-_, _≤_}
 use mathlib.Core.Path.{_≡_, refl, ap, _∙_}
 use lib.ListN.{length, length-set}
 use lib.Seq.{paste, paste-zero}

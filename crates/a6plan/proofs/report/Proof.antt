@@ -1,7 +1,6 @@
 -- `a6plan::report` meets its contract: the output is kept or cleared, the figures are put, and the number is the exported one.
 use Prim.Native.Nat.{ℕ}
-use mathlib.Core.Path.{_≡_, ap, _∙_}
-use lib.ListN.{length}
+use mathlib.Core.Path.{ap, _∙_}
 use borrow.Author.Needs.{needs}
 use Rattle.a6plan.specs.Exports.{ofTable, exportedNumber}
 use Rattle.a6plan.proofs.report.Statement.{statement}

@@ -1,16 +1,26 @@
 -- `plan::check` meets its contract: each way out is a number, and the place that goes with it.
-use Prim.Native.Nat.{ℕ}
+use Prim.Native.Nat.{ℕ, _%_, _≤_}
 use mathlib.Core.Path.{_≡_, ap, _∙_, sym}
 use mathlib.Core.List.{List}
+use lib.ListN.{length}
 use native.Mathlib.Omega.{arith}
 use borrow.Author.Needs.{needs}
-use Rattle.plan.specs.Layout.{recordAt}
-use Rattle.plan.specs.Check.{faultOf, firstFault, checkOf}
-use Rattle.plan.specs.Faults.{noPlace, faultIn}
+use Rattle.plan.specs.Layout.{recordSize, maxRecords, countOf, recordAt}
+use Rattle.plan.specs.Check.{faultOf, firstFault}
 use Rattle.plan.proofs.OrderLaws.{no-fault, number-length, number-many, number-fault, number-repeat, number-none}
 use Rattle.plan.proofs.PlaceLaws.{fault-two, fault-three, fault-other, replied}
 use Rattle.plan.proofs.check.Statement.{statement}
 use Rattle.plan.proofs.check.Tie as tie
+
+-- where a DNAME that repeats an owner was sought: the table, and what is known of its length, its count and its records
+abbrev table : tie.After-first-repeat → List ℕ
+table c = c .before .before .before .before .before .before .before .args .table .now
+
+sought : (c : tie.After-first-repeat) → (length (table c) % recordSize ≡ 0) × (countOf (table c) ≤ maxRecords) × (countOf (table c) ≤ firstFault (table c)) × (c .before .before .before .before .before .count .result ≡ countOf (table c))
+sought c =
+    let n = c .before .before .before .before .before .count .ensures in
+    let f = c .before .before .first-fault .ensures in
+    (c .before .before .before .before .if1 .left, omega (arith, n, c .before .before .before .if2 .left), omega (arith, n, f, c .before .if3 .left), n)
 
 count-requires : tie.Need-count-requires
 count-requires c κs = search needs
@@ -72,24 +82,20 @@ told-requires-4 c κs = search needs
 
 returns-4 : tie.Need-returns-4
 returns-4 c =
-    let t = c .before .before .before .before .before .before .before .before .before .args .table .now in
-    let n = c .before .before .before .before .before .before .before .count .ensures in
-    let f = c .before .before .before .before .first-fault .ensures in
-    let g = c .before .before .first-repeat .ensures in
-    let e = number-repeat t (c .before .before .before .before .before .before .if1 .left) (omega arith) (omega arith) (omega arith) in
-    c .told4 .ensures ∙ replied t 3 _ 4 e (fault-three t e ∙ λ j. record { index = sym g j; field = 4 })
+    let k = c .before .before in
+    let w = sought k in
+    let e = number-repeat (table k) (w .0) (w .1) (w .2) (omega (arith, w .3, c .before .if4 .taken, k .first-repeat .ensures)) in
+    c .told4 .ensures ∙ replied (table k) 3 _ 4 e (fault-three (table k) e ∙ λ j. record { index = sym (k .first-repeat .ensures) j; field = 4 })
 
 told-requires-5 : tie.Need-told-requires-5
 told-requires-5 c κs = search needs
 
 returns-5 : tie.Need-returns-5
 returns-5 c =
-    let t = c .before .before .before .before .before .before .before .before .before .args .table .now in
-    let n = c .before .before .before .before .before .before .before .count .ensures in
-    let f = c .before .before .before .before .first-fault .ensures in
-    let g = c .before .before .first-repeat .ensures in
-    let e = number-none t (c .before .before .before .before .before .before .if1 .left) (omega arith) (omega arith) (omega arith) in
-    c .told5 .ensures ∙ replied t 0 0 0 e (fault-other t (λ h. omega arith) (λ h. omega arith))
+    let k = c .before .before in
+    let w = sought k in
+    let e = number-none (table k) (w .0) (w .1) (w .2) (omega (arith, w .3, c .before .if4 .left, k .first-repeat .ensures)) in
+    c .told5 .ensures ∙ replied (table k) 0 0 0 e (fault-other (table k) (λ h. omega arith) (λ h. omega arith))
 
 pub check-spec : {M : Type 1} → statement M
 check-spec =

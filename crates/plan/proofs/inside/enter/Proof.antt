@@ -1,9 +1,7 @@
 -- `plan::inside::enter` meets its contract: a name is held exactly when it is well formed, and the fault is the one that the check replies.
-use Prim.Native.Nat.{ℕ}
-use mathlib.Core.Path.{_≡_, ap, _∙_}
+use mathlib.Core.Path.{ap, _∙_}
 use native.Mathlib.Omega.{arith}
 use borrow.Author.Needs.{needs}
-use Rattle.names.specs.declared.Name.{Name}
 use Rattle.octets.specs.Answers.{earns, orElse}
 use lib.Dec.{eqb}
 use Rattle.plan.specs.declared.Reply.{Reply}

@@ -1,8 +1,6 @@
 -- `plan::inside::named` meets its contract: each test is one way out.
-use lib.Dec.{eqb}
 use mathlib.Core.Path.{_∙_, sym}
 use borrow.Author.Tests.{eq-eqb, ne-eqb}
-use Rattle.octets.specs.Answers.{earns, orElse}
 use Rattle.octets.proofs.AnswerLaws.{else-kept, else-later}
 use Rattle.plan.proofs.inside.named.Statement.{statement}
 use Rattle.plan.proofs.inside.named.Tie as tie
