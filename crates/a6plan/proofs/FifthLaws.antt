@@ -69,7 +69,7 @@ after-name : (p q : ℕ) (b c d : Bool) → 4 < p → 4 < q → (m : ℕ) → 0 
 after-name p q b c d g h m l k =
     earns-not m b 5 (earns c p (earns d q 0)) (λ e. omega arith) (earns-not m c p (earns d q 0) (λ e. omega arith) (earns-not m d q 0 (λ e. omega arith) (λ e. omega arith)))
 
--- Theorem: of `a6plan_check` it is the table's number, or else 5
+-- Theorem: with figures that are not two `a6plan_check` gives the table's number, or else 5
 pub fifth-check : (t : List ℕ) (n : ℕ) → (n ≡ 2 → ⊥) → exportedNumber ofCheck n (checkOf t) ≡ orElse (checkOf t) 5
 unfolding among
 fifth-check t n h = go (checkOf t) (check-most t)
@@ -78,7 +78,7 @@ fifth-check t n h = go (checkOf t) (check-most t)
     go zero l = exported-late ofCheck n 0 h refl
     go (suc k) l = exported-early ofCheck n (suc k) h (early-check (suc k) l (λ z. omega arith))
 
--- Theorem: of `a6plan_lookup` and `a6plan_collapse` it is what the table and the name earn, or else 5
+-- Theorem: with figures that are not four `a6plan_lookup` gives what the table and the name earn, or else 5
 pub fifth-lookup : (t name : List ℕ) (limit size room n : ℕ) → (n ≡ 4 → ⊥) → exportedNumber ofTable n (lookupNumber t name limit size room) ≡ orElse (entryNumber t name) 5
 unfolding lookupNumber search.numberOf
 fifth-lookup t name limit size room n h =
@@ -86,13 +86,14 @@ fifth-lookup t name limit size room n h =
     exported-fifth ofTable n h (entryNumber t name) _ (early-table (entryNumber t name) (entry-most t name))
     (late-table _ (after-name 6 7 (misfit size room) (ltb limit (workOf g name)) (ltb (size / 16) (length (addressesOf g name))) (omega arith) (omega arith)))
 
+-- Theorem: and so does `a6plan_collapse`
 pub fifth-collapse : (t x : List ℕ) (size n : ℕ) → (n ≡ 4 → ⊥) → exportedNumber ofTable n (collapse.numberOf t x size) ≡ orElse (entryNumber t x) 5
 unfolding collapse.numberOf
 fifth-collapse t x size n h =
     exported-fifth ofTable n h (entryNumber t x) _ (early-table (entryNumber t x) (entry-most t x))
     (late-table _ (after-name 9 7 (collapse.misshapen size) (reviving x t) (collapse.passes size (foldOf x t)) (omega arith) (omega arith)))
 
--- Theorem: of `a6plan_reverse` it is what the table earns, or else 4 for the address, or else 5
+-- what `a6plan_reverse` judges before 5 and after it
 module _ (t address : List ℕ) (limit room n : ℕ) (h : n ≡ 4 → ⊥) where
   abbrev addressNumber : ℕ
   addressNumber = earns (not (eqb (length address) addressSize)) 4 0
@@ -103,6 +104,7 @@ module _ (t address : List ℕ) (limit room n : ℕ) (h : n ≡ 4 → ⊥) where
   abbrev after : ℕ
   after = orElse (earns (not (eqb room nameRoom)) 5 0) walked
 
+  -- Theorem: with figures that are not four `a6plan_reverse` gives what the table earns, or else 4 for the address, or else 5
   pub fifth-reverse : exportedNumber ofTable n (endNumber (endOf t address limit room)) ≡ orElse (orElse (checkOf t) addressNumber) 5
   unfolding earlyNumber
   fifth-reverse = ap (exportedNumber ofTable n) split ∙ exported-fifth ofTable n h (orElse (checkOf t) addressNumber) after (early-table _ (most (checkOf t) (not (eqb (length address) addressSize)) (check-most t))) (late-table after (later (not (eqb room nameRoom))))
@@ -127,7 +129,7 @@ module _ (t address : List ℕ) (limit room n : ℕ) (h : n ≡ 4 → ⊥) where
       split =
           end-number t address limit room ∙ judged ∙ ap (orElse (checkOf t)) (tests (not (eqb (length address) addressSize)) (not (eqb room nameRoom))) ∙ sym (else-else (checkOf t) addressNumber after)
 
--- Theorem: of `a6plan_standard` it is 4 for a malformed name, or else 5; of `a6plan_owner` it is 5
+-- Theorem: with figures that are not two `a6plan_standard` gives 4 for a malformed name, or else 5
 pub fifth-standard : (name : List ℕ) (room n : ℕ) → (n ≡ 2 → ⊥) → exportedNumber ofName n (standardNumber name room) ≡ earns (not (wellFormed name)) 4 5
 unfolding among standardNumber
 fifth-standard name room n h = go (wellFormed name) (eqb room 255)
@@ -137,6 +139,7 @@ fifth-standard name room n h = go (wellFormed name) (eqb room 255)
     go true true = exported-late ofName n 0 h refl
     go true false = exported-late ofName n 5 h refl
 
+-- Theorem: and `a6plan_owner` gives 5
 pub fifth-owner : (n : ℕ) → (n ≡ 2 → ⊥) → exportedNumber ofPart n 0 ≡ 5
 unfolding among
 fifth-owner n h = exported-late ofPart n 0 h refl

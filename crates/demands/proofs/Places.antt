@@ -33,7 +33,7 @@ else-none : (k : ℕ) → orElse k 0 ≡ k
 else-none zero = refl
 else-none (suc k) = refl
 
--- the number of the check, with the fault of the table
+-- by the number of the check the fault of the table may be relied on
 pub check-placed : (t : List ℕ) → Placed t (checkOf t) (faultIn t)
 check-placed t = as-placed t (checkOf t) 0 (sym (else-none (checkOf t))) (λ h. omega arith) (λ h. omega arith)
 
@@ -53,14 +53,14 @@ module _ (t name : List ℕ) (p q : ℕ) (b c d : Bool) where
       (not-later 2 (λ e. omega arith) (λ e. omega arith) (λ e. omega arith) (λ e. omega arith) (λ e. omega arith))
       (not-later 3 (λ e. omega arith) (λ e. omega arith) (λ e. omega arith) (λ e. omega arith) (λ e. omega arith))
 
--- the number of a lookup, with the fault of the table: 6 and 7 come after the name and the output
+-- and by that of a lookup, which may earn 4 to 7 after the table
 pub lookup-placed : (t name : List ℕ) (limit size room : ℕ) → Placed t (lookupNumber t name limit size room) (faultIn t)
 unfolding lookupNumber search.numberOf
 lookup-placed t name limit size room =
     let g = graphOf t in
     named-placed t name 6 7 (misfit size room) (ltb limit (workOf g name)) (ltb (size / 16) (length (addressesOf g name))) (omega arith) (omega arith)
 
--- the number of a collapse, with the fault of the table: 9 and 7 come after them
+-- and by that of a collapse, which may earn 4, 5, 9 and 7
 pub collapse-placed : (t x : List ℕ) (size : ℕ) → Placed t (numberOf t x size) (faultIn t)
 unfolding numberOf
 collapse-placed t x size = named-placed t x 9 7 (misshapen size) (reviving x t) (passes size (foldOf x t)) (omega arith) (omega arith)
@@ -77,7 +77,7 @@ module _ (t address : List ℕ) (limit room : ℕ) where
   no-later m n0 n4 n5 n6 n8 =
       else-not m input walk (earns-not m (not (eqb (length address) addressSize)) 4 _ n4 (earns-not m (not (eqb room nameRoom)) 5 0 n5 n0)) (walk-not m n0 n6 n8 limit 0 (rulesOf t) (startOf address))
 
-  -- the number of a reverse lookup, with the fault of the table
+  -- and by that of a reverse lookup, which may earn 4, 5, 6 and 8
   pub reverse-placed : Placed t (endNumber (endOf t address limit room)) (faultIn t)
   unfolding earlyNumber
   reverse-placed =

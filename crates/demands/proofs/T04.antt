@@ -51,33 +51,32 @@ none = fault-other
 numbered : (t : List ℕ) (k count work : ℕ) {r : Reply} → r ≡ replying t (answerBy k count work) → Placed t k (faultIn t) → Placed t (r .answer .number) (r .fault)
 numbered t k count work e p = rw (e, by-number k count work) p
 
--- ---- each operation on a table hands it on: of what a caller learns, by the number of the answer, the fault beside it is the place at 2 and at 3, and
--- zeros else
--- the check
+-- ---- each operation on a table hands the fault on
+-- of the reply of `plan::check`, as its caller learns it: at 2 and at 3 the fault is the place, and with any other number zeros
 pub check : (κs : Lfts 1) (table : RefT (List ℕ)) (r : Reply) → plan-check.Learnt κs (table, tt) r (table, tt) → Placed (now table) (r .answer .number) (r .fault)
 check κs table r l = rw l (check-placed (now table))
 
--- lookup
+-- so of the reply of `forward::lookup`
 pub lookup : (κs : Lfts 4) (table name out end ttls left : RefT (List ℕ)) (limit : ℕ) (r : Reply)
     → forward.Learnt κs (table, (name, (limit, (out, (ttls, tt))))) r (table, (name, (limit, (end, (left, tt))))) → Placed (now table) (r .answer .number) (r .fault)
 lookup κs table name out end ttls left limit r l = numbered (now table) _ _ _ (l .0) (lookup-placed (now table) (now name) limit (length (now out)) (length (now ttls)))
 
--- reverse lookup
+-- so of the reply of `reverse::lookup`
 pub reverse : (κs : Lfts 3) (table address out end : RefT (List ℕ)) (limit : ℕ) (r : Reply)
     → reversed.Learnt κs (table, (address, (limit, (out, tt)))) r (table, (address, (limit, (end, tt)))) → Placed (now table) (r .answer .number) (r .fault)
 reverse κs table address out end limit r l = numbered (now table) _ _ _ (l .0) (reverse-placed (now table) (now address) limit (length (now out)))
 
--- collapse
+-- so of the reply of `collapse::collapse`
 pub collapse : (κs : Lfts 3) (table name out end : RefT (List ℕ)) (r : Reply)
     → collapsed.Learnt κs (table, (name, (out, tt))) r (table, (name, (end, tt))) → Placed (now table) (r .answer .number) (r .fault)
 collapse κs table name out end r l = numbered (now table) _ _ _ (l .0) (collapse-placed (now table) (now name) (length (now out)))
 
--- ---- and so at the C interface: by the number that comes back, where there are as many figures as are wanted
+-- ---- and so at the C interface
 -- index and field among figures, from a place on
 abbrev pub placeAt : List ℕ → ℕ → Fault
 placeAt figures at = record { index = getD figures at 0; field = getD figures (at + 1) 0 }
 
--- `a6plan_check`
+-- of the number of `a6plan_check` and its two figures: at 2 and at 3 they are the place, and with any other number zeros
 pub export-check : (κs : Lfts 2) (table figures figured : RefT (List ℕ)) (r : ℕ)
     → a6plan-check.Learnt κs (table, (figures, tt)) r (table, (figured, tt)) → length (now figures) ≡ 2 → Placed (now table) r (placeAt (now figured) 0)
 export-check κs table figures figured r l h =
@@ -91,28 +90,28 @@ four : (t : List ℕ) (n k count work r : ℕ) {figures : List ℕ} → r ≡ ex
     → n ≡ 4 → Placed t k (faultIn t) → Placed t r (placeAt figures 2)
 four t n k count work r e f h p = rw (e ∙ exported-fit ofTable n k h, f ∙ sym (placed-all _ n h)) p
 
--- `a6plan_lookup`
+-- so of the number of `a6plan_lookup` and the last two of its four figures
 pub export-lookup : (κs : Lfts 5) (table name : RefT (List ℕ)) (limit : ℕ) (out end ttls left figures figured : RefT (List ℕ)) (r : ℕ)
     → a6plan-lookup.Learnt κs (table, (name, (limit, (out, (ttls, (figures, tt)))))) r (table, (name, (limit, (end, (left, (figured, tt))))))
     → length (now figures) ≡ 4 → Placed (now table) r (placeAt (now figured) 2)
 export-lookup κs table name limit out end ttls left figures figured r l h =
     four (now table) _ _ _ _ r (l .0) (l .1 .1 .1) h (lookup-placed (now table) (now name) limit (length (now out)) (length (now ttls)))
 
--- `a6plan_reverse`
+-- so of `a6plan_reverse`
 pub export-reverse : (κs : Lfts 4) (table address : RefT (List ℕ)) (limit : ℕ) (out end figures figured : RefT (List ℕ)) (r : ℕ)
     → a6plan-reverse.Learnt κs (table, (address, (limit, (out, (figures, tt))))) r (table, (address, (limit, (end, (figured, tt)))))
     → length (now figures) ≡ 4 → Placed (now table) r (placeAt (now figured) 2)
 export-reverse κs table address limit out end figures figured r l h =
     four (now table) _ _ _ _ r (l .0) (l .1 .1) h (reverse-placed (now table) (now address) limit (length (now out)))
 
--- `a6plan_collapse`
+-- so of `a6plan_collapse`
 pub export-collapse : (κs : Lfts 4) (table name : RefT (List ℕ)) (out end figures figured : RefT (List ℕ)) (r : ℕ)
     → a6plan-collapse.Learnt κs (table, (name, (out, (figures, tt)))) r (table, (name, (end, (figured, tt))))
     → length (now figures) ≡ 4 → Placed (now table) r (placeAt (now figured) 2)
 export-collapse κs table name out end figures figured r l h =
     four (now table) _ _ _ _ r (l .0) (l .1 .1) h (collapse-placed (now table) (now name) (length (now out)))
 
--- ---- figures of another length are 5, at 5's place in the order of each export, and everything that was lent is zero
+-- ---- figures of another length
 refuses-five : (k : ℕ) → orElse k 5 ≡ 0 → ⊥
 refuses-five zero e = omega arith
 refuses-five (suc k) e = omega arith
@@ -121,13 +120,13 @@ refuses-five (suc k) e = omega arith
 cleared : (r : ℕ) (result : List ℕ) (room : ℕ) {end : List ℕ} → (r ≡ 0 → ⊥) → end ≡ outBy r result room → end ≡ blank room
 cleared r result room h o = o ∙ sym (refused-out r r refl h result room)
 
--- `a6plan_check`: after what the table earns
+-- `a6plan_check` with figures that are not two gives what the table earns, or else 5, and zeros in all that was lent
 pub misfit-check : (κs : Lfts 2) (table figures figured : RefT (List ℕ)) (r : ℕ)
     → a6plan-check.Learnt κs (table, (figures, tt)) r (table, (figured, tt)) → (length (now figures) ≡ 2 → ⊥)
     → (r ≡ orElse (checkOf (now table)) 5) × (now figured ≡ blank (length (now figures)))
 misfit-check κs table figures figured r l h = (l .0 ∙ fifth-check (now table) (length (now figures)) h, l .1 ∙ sym (placed-none _ _ h))
 
--- `a6plan_lookup`: after what the table and the name earn
+-- `a6plan_lookup` with figures that are not four gives what the table and the name earn, or else 5, and zeros in all that was lent
 pub misfit-lookup : (κs : Lfts 5) (table name : RefT (List ℕ)) (limit : ℕ) (out end ttls left figures figured : RefT (List ℕ)) (r : ℕ)
     → a6plan-lookup.Learnt κs (table, (name, (limit, (out, (ttls, (figures, tt)))))) r (table, (name, (limit, (end, (left, (figured, tt)))))) → (length (now figures) ≡ 4 → ⊥)
     → (r ≡ orElse (entryNumber (now table) (now name)) 5)
@@ -137,7 +136,7 @@ misfit-lookup κs table name limit out end ttls left figures figured r l h =
     let z : r ≡ 0 → ⊥ = λ f. refuses-five (entryNumber (now table) (now name)) (sym e ∙ f) in
     (e, cleared r _ _ z (l .1 .0), cleared r _ _ z (l .1 .1 .0), l .1 .1 .1 ∙ sym (placed-none _ _ h))
 
--- `a6plan_reverse`: after what the table earns, and 4 for the address
+-- `a6plan_reverse` with figures that are not four gives what the table earns, or else 4 for the address, or else 5, and zeros in all that was lent
 pub misfit-reverse : (κs : Lfts 4) (table address : RefT (List ℕ)) (limit : ℕ) (out end figures figured : RefT (List ℕ)) (r : ℕ)
     → a6plan-reverse.Learnt κs (table, (address, (limit, (out, (figures, tt))))) r (table, (address, (limit, (end, (figured, tt))))) → (length (now figures) ≡ 4 → ⊥)
     → (r ≡ orElse (orElse (checkOf (now table)) (earns (not (eqb (length (now address)) addressSize)) 4 0)) 5)
@@ -146,7 +145,7 @@ misfit-reverse κs table address limit out end figures figured r l h =
     let e = l .0 ∙ fifth-reverse (now table) (now address) limit (length (now out)) (length (now figures)) h in
     (e, cleared r _ _ (λ f. refuses-five (orElse (checkOf (now table)) (earns (not (eqb (length (now address)) addressSize)) 4 0)) (sym e ∙ f)) (l .1 .0), l .1 .1 ∙ sym (placed-none _ _ h))
 
--- `a6plan_collapse`: after what the table and the name earn
+-- `a6plan_collapse` with figures that are not four gives what the table and the name earn, or else 5, and zeros in all that was lent
 pub misfit-collapse : (κs : Lfts 4) (table name : RefT (List ℕ)) (out end figures figured : RefT (List ℕ)) (r : ℕ)
     → a6plan-collapse.Learnt κs (table, (name, (out, (figures, tt)))) r (table, (name, (end, (figured, tt)))) → (length (now figures) ≡ 4 → ⊥)
     → (r ≡ orElse (entryNumber (now table) (now name)) 5) × (now end ≡ blank (length (now out))) × (now figured ≡ blank (length (now figures)))
@@ -154,12 +153,12 @@ misfit-collapse κs table name out end figures figured r l h =
     let e = l .0 ∙ fifth-collapse (now table) (now name) (length (now out)) (length (now figures)) h in
     (e, cleared r _ _ (λ f. refuses-five (entryNumber (now table) (now name)) (sym e ∙ f)) (l .1 .0), l .1 .1 ∙ sym (placed-none _ _ h))
 
--- `a6plan_standard`, which has two figures: after 4 for the name
+-- `a6plan_standard` with figures that are not two gives 4 for a malformed name, or else 5; all that was lent is zero (`export-standard-clears`)
 pub misfit-standard : (κs : Lfts 3) (name out end figures figured : RefT (List ℕ)) (r : ℕ)
     → a6plan-standard.Learnt κs (name, (out, (figures, tt))) r (name, (end, (figured, tt))) → (length (now figures) ≡ 2 → ⊥) → r ≡ earns (not (wellFormed (now name))) 4 5
 misfit-standard κs name out end figures figured r l h = l .0 ∙ fifth-standard (now name) (length (now out)) (length (now figures)) h
 
--- `a6plan_owner`, which has two figures and no other number
+-- `a6plan_owner` with figures that are not two gives 5; all that was lent is zero (`export-owner-clears`)
 pub misfit-owner : (κs : Lfts 2) (table : RefT (List ℕ)) (index : ℕ) (figures figured : RefT (List ℕ)) (r : ℕ)
     → a6plan-owner.Learnt κs (table, (index, (figures, tt))) r (table, (index, (figured, tt))) → (length (now figures) ≡ 2 → ⊥) → r ≡ 5
 misfit-owner κs table index figures figured r l h = l .0 ∙ fifth-owner (length (now figures)) h

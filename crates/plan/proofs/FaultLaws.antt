@@ -15,7 +15,7 @@ use Rattle.address.specs.Address.{clearTo}
 use Rattle.chains.specs.Graph.{maxTtl}
 use Rattle.address.proofs.ClearLaws.{clear-zero}
 use Rattle.plan.specs.Layout.{slotSize, a6, dname, typeOf, prefixOf, zeroOf, addressOf, ownerSlot, targetSlot, ttlOf, nameIn, slotOf, isA6, isType}
-use Rattle.plan.specs.Check.{slotGood, slotEmpty, typeGood, prefixGood, addressGood, targetless, targetGood, ttlGood, fieldCount, fieldGood, faultOf}
+use Rattle.plan.specs.Check.{slotGood, slotEmpty, typeGood, prefixGood, addressGood, targetless, targetGood, ttlGood, fieldCount, testsOf, fieldGood, faultOf}
 use Rattle.plan.specs.First.{firstFrom}
 use Rattle.plan.specs.Good.{Holds, Good}
 use Rattle.plan.proofs.FirstLaws.{first-on, first-here, first-none, none-first}
@@ -143,7 +143,7 @@ record Passes (r : List ℕ) : Type 0 where
   ttl : ttlGood r ≡ true
 
 passes : (r : List ℕ) → ((f : ℕ) → f < fieldCount → fieldGood r f ≡ true) → Passes r
-unfolding fieldGood
+unfolding testsOf fieldGood
 passes r h = record {
   kind = h 0 (omega arith);
   prefix = h 1 (omega arith);
@@ -155,7 +155,7 @@ passes r h = record {
 }
 
 passing : (r : List ℕ) → Passes r → (f : ℕ) → f < fieldCount → fieldGood r f ≡ true
-unfolding fieldGood
+unfolding testsOf fieldGood
 passing r p zero l = p .kind
 passing r p (suc zero) l = p .prefix
 passing r p (suc (suc zero)) l = eq-eqb (zeroOf r) 0 (p .nought)

@@ -57,7 +57,6 @@ testsOf r = typeGood r ∷ prefixGood r ∷ eqb (zeroOf r) 0 ∷ addressGood r �
 
 -- the field of the record passes its test
 unfoldable pub fieldGood : List ℕ → ℕ → Bool
-unfolding testsOf
 fieldGood r f = getD (testsOf r) f true
 
 -- the first field at fault; the number of fields where none is

@@ -7,7 +7,7 @@ use lib.Dec.{eqb}
 use native.Mathlib.Omega.{arith}
 use borrow.Author.Needs.{needs}
 use borrow.Author.Tests.{eq-eqb, ne-eqb}
-use Rattle.plan.specs.Check.{slotGood, fieldCount, fieldGood, faultOf}
+use Rattle.plan.specs.Check.{slotGood, fieldCount, testsOf, fieldGood, faultOf}
 use Rattle.plan.proofs.FirstLaws.{first-end}
 use Rattle.plan.proofs.FaultLaws.{leftFrom, fault-from, field-fails, field-passes}
 use Rattle.plan.proofs.first_field.Statement.{statement}
@@ -37,31 +37,31 @@ row-ttl c = row-target (c .before .before)
 
 -- the answer of each test is that of its field
 answer-type : (c : tie.After-type-good) → c .type-good .result ≡ fieldGood (row-type c) 0
-unfolding fieldGood
+unfolding testsOf fieldGood
 answer-type c = c .type-good .ensures
 
 answer-prefix : (c : tie.After-prefix-good) → c .prefix-good .result ≡ fieldGood (row-prefix c) 1
-unfolding fieldGood
+unfolding testsOf fieldGood
 answer-prefix c = c .prefix-good .ensures
 
 answer-zero : (c : tie.After-zero-of) → eqb (c .zero-of .result) 0 ≡ fieldGood (row-zero c) 2
-unfolding fieldGood
+unfolding testsOf fieldGood
 answer-zero c = ap (λ (x : ℕ). eqb x 0) (c .zero-of .ensures)
 
 answer-address : (c : tie.After-address-good) → c .address-good .result ≡ fieldGood (row-address c) 3
-unfolding fieldGood
+unfolding testsOf fieldGood
 answer-address c = c .address-good .ensures
 
 answer-owner : (c : tie.After-slot-good) → c .slot-good .result ≡ fieldGood (row-owner c) 4
-unfolding fieldGood
+unfolding testsOf fieldGood
 answer-owner c = c .slot-good .ensures ∙ ap slotGood (c .before .owner-slot .ensures .0)
 
 answer-target : (c : tie.After-target-good) → c .target-good .result ≡ fieldGood (row-target c) 5
-unfolding fieldGood
+unfolding testsOf fieldGood
 answer-target c = c .target-good .ensures
 
 answer-ttl : (c : tie.After-ttl-good) → c .ttl-good .result ≡ fieldGood (row-ttl c) 6
-unfolding fieldGood
+unfolding testsOf fieldGood
 answer-ttl c = c .ttl-good .ensures
 
 -- past a test, the later fields are left
