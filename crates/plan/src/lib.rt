@@ -52,9 +52,9 @@ pub fn check(table: &[u8]) -> Reply
     if MAX_RECORDS < n {
         return told(1, 0, 0);
     }
-    let i = first_fault(table);
-    if i < n {
-        return told(2, i as u32, first_field(inside::row(table, i)));
+    let found = first_fault(table);
+    if (found.index as usize) < n {
+        return told(2, found.index, found.field);
     }
     let j = first_repeat(table);
     if j < n {
@@ -108,19 +108,27 @@ fn nowhere() -> Part
     }
 }
 
-// The index of the first record at fault; the number of records where none is.
-fn first_fault(table: &[u8]) -> usize
-    ensures { λ r. ⌜ r ≡ firstFault (now (table .entry)) ⌝ }
+// The index of the first record at fault, and its first field that is; the number of records where none is.
+fn first_fault(table: &[u8]) -> Fault
+    requires { ⌜ countOf (now table) ≤ maxRecords ⌝ }
+    ensures { λ r. ⌜ (r .index ≡ firstFault (now (table .entry))) × (r .index < countOf (now (table .entry)) → r .field ≡ faultOf (recordAt (now (table .entry)) (r .index))) ⌝ }
 {
     let n = inside::count(table);
     let mut i: usize = 0;
     while i < n {
-        if first_field(inside::row(table, i)) < FIELDS {
-            return i;
+        let field = first_field(inside::row(table, i));
+        if field < FIELDS {
+            return Fault {
+                index: i as u32,
+                field,
+            };
         }
         i += 1;
     }
-    n
+    Fault {
+        index: n as u32,
+        field: 0,
+    }
 }
 
 // The first field of a record that is at fault; the number of fields where none is.

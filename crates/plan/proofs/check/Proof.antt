@@ -14,13 +14,13 @@ use Rattle.plan.proofs.check.Tie as tie
 
 -- where a DNAME that repeats an owner was sought: the table, and what is known of its length, its count and its records
 abbrev table : tie.After-first-repeat → List ℕ
-table c = c .before .before .before .before .before .before .before .args .table .now
+table c = c .before .before .before .before .before .before .before .before .args .table .now
 
-sought : (c : tie.After-first-repeat) → (length (table c) % recordSize ≡ 0) × (countOf (table c) ≤ maxRecords) × (countOf (table c) ≤ firstFault (table c)) × (c .before .before .before .before .before .count .result ≡ countOf (table c))
+sought : (c : tie.After-first-repeat) → (length (table c) % recordSize ≡ 0) × (countOf (table c) ≤ maxRecords) × (countOf (table c) ≤ firstFault (table c)) × (c .before .before .before .before .before .before .count .result ≡ countOf (table c))
 sought c =
-    let n = c .before .before .before .before .before .count .ensures in
-    let f = c .before .before .first-fault .ensures in
-    (c .before .before .before .before .if1 .left, omega (arith, n, c .before .before .before .if2 .left), omega (arith, n, f, c .before .if3 .left), n)
+    let n = c .before .before .before .before .before .before .count .ensures in
+    let f = c .before .before .before .first-fault .ensures .0 in
+    (c .before .before .before .before .before .if1 .left, omega (arith, n, c .before .before .before .before .if2 .left), omega (arith, n, f, c .before .if3 .left), n)
 
 count-requires : tie.Need-count-requires
 count-requires c κs = search needs
@@ -45,37 +45,32 @@ returns-2 c =
     c .told2 .ensures ∙ replied t 1 0 0 e (fault-other t (λ h. omega arith) (λ h. omega arith))
 
 first-fault-requires : tie.Need-first-fault-requires
-first-fault-requires c κs = search needs
+first-fault-requires c κs = omega (arith, c .before .before .count .ensures, c .if2 .left)
 
-cast-told : tie.Need-cast-told
-cast-told c = search needs
-
-row-requires : tie.Need-row-requires
-row-requires c κs = search needs
-
-first-field-requires : tie.Need-first-field-requires
-first-field-requires c κs = search needs
+cast-if3 : tie.Need-cast-if3
+cast-if3 c = search needs
 
 told-requires-3 : tie.Need-told-requires-3
 told-requires-3 c κs = search needs
 
 returns-3 : tie.Need-returns-3
 returns-3 c =
-    let t = c .before .before .before .before .before .before .before .before .before .args .table .now in
-    let n = c .before .before .before .before .before .before .before .count .ensures in
-    let i = c .before .before .before .before .first-fault .ensures in
-    let f = c .before .first-field .ensures ∙ ap faultOf (c .before .before .row .ensures .0) in
-    let e = number-fault t (c .before .before .before .before .before .before .if1 .left) (omega arith) (omega arith) in
+    let t = c .before .before .before .before .before .before .before .before .args .table .now in
+    let n = c .before .before .before .before .before .before .count .ensures in
+    let p = c .before .before .before .first-fault .ensures in
+    let i = p .0 in
+    let f = p .1 (omega (arith, n, c .before .if3 .taken)) in
+    let e = number-fault t (c .before .before .before .before .before .if1 .left) (omega (arith, n, c .before .before .before .before .if2 .left)) (omega (arith, n, i, c .before .if3 .taken)) in
     c .told3 .ensures ∙ replied t 2 _ _ e (fault-two t e ∙ λ j. record { index = sym i j; field = (ap (λ (k : ℕ). faultOf (recordAt t k)) (sym i) ∙ sym f) j })
 
 first-repeat-requires : tie.Need-first-repeat-requires
 first-repeat-requires c κs =
-    let t = c .before .before .before .before .before .before .args .table .now in
-    let n = c .before .before .before .before .count .ensures in
-    (no-fault t (omega (arith, n, c .before .first-fault .ensures)), omega (arith, n, c .before .before .if2 .left))
+    let t = c .before .before .before .before .before .before .before .args .table .now in
+    let n = c .before .before .before .before .before .count .ensures in
+    (no-fault t (omega (arith, n, c .if3 .left, c .before .before .first-fault .ensures .0)), omega (arith, n, c .before .before .before .if2 .left))
 
-cast-told-2 : tie.Need-cast-told-2
-cast-told-2 c = search needs
+cast-told : tie.Need-cast-told
+cast-told c = search needs
 
 told-requires-4 : tie.Need-told-requires-4
 told-requires-4 c κs = search needs
@@ -107,13 +102,11 @@ check-spec =
     told-requires-2
     returns-2
     first-fault-requires
-    cast-told
-    row-requires
-    first-field-requires
+    cast-if3
     told-requires-3
     returns-3
     first-repeat-requires
-    cast-told-2
+    cast-told
     told-requires-4
     returns-4
     told-requires-5
