@@ -7,7 +7,7 @@ use a6plan_tests::generate::plan::{self, break_field, breakable, dname_record, n
 use a6plan_tests::generate::Random;
 use a6plan_tests::reference::forward as reference;
 use a6plan_tests::reference::plan::{FIGURES, RECORD};
-use a6plan_tests::tree::repository;
+use a6plan_tests::tree::{repository, text_of};
 use std::fs;
 use std::io::Write;
 use std::path::Path;
@@ -173,6 +173,17 @@ fn the_program_says_which_record_and_which_field() {
         put(&mut table, first, &dname);
         put(&mut table, second, &dname_record(&name("S.A"), &name("u")));
         assert_prints(&[slot(&name("x.a")), table].concat(), &format!("refused 3 {second} 4\n"));
+    }
+}
+
+#[test]
+fn readme_breaks_a_prefix_length() {
+    let readme = text_of("README.md");
+    let command = readme.lines().map(str::trim).find(|line| line.contains("printf '\\310'"));
+    if program().is_some() {
+        let mut shell = Command::new("sh");
+        shell.args(["-c", command.expect("the command is there")]).current_dir(repository());
+        assert_eq!(shell.output().expect("the command runs").stdout, b"refused 2 0 1\n");
     }
 }
 

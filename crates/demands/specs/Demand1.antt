@@ -1,4 +1,5 @@
--- The words of demand 1 (01, What comes back): a contract that asks nothing and says just one thing, and a refusal that leaves nothing but, after 2 and 3, the place of the fault (T-04).
+-- The words of demand 1 (01, What comes back): a contract that asks nothing and says just one thing, and a refusal that leaves nothing but, after 2 and
+-- 3, the place of the fault (T-04).
 use Prim.Native.Nat.{ℕ, _+_}
 use mathlib.Core.Path.{_≡_}
 use mathlib.Core.List.{List}

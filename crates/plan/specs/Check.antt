@@ -71,7 +71,7 @@ faulty t i = ltb (faultOf (recordAt t i)) fieldCount
 unfoldable pub firstFault : List ℕ → ℕ
 firstFault t = first (faulty t) (countOf t)
 
--- record i is a DNAME with the owner of record j, which it may stand before
+-- record i is a DNAME with the owner of record j; `repeats` asks it of each i below j
 unfoldable pub twin : List ℕ → ℕ → ℕ → Bool
 twin t j i = isDname (recordAt t i) && sameName (ownerAt t i) (ownerAt t j)
 

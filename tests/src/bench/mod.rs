@@ -172,7 +172,7 @@ pub fn main() {
         }
     }
     if words.is_empty() {
-        println!("| `rt ci` from nothing | measured apart | – | – | 20 minutes, 4 GB | |");
+        println!("| `rt ci` from nothing | measured apart | – | – | 30 minutes, 4 GB | |");
         println!("| the longest crate of it, without its edits | measured apart | – | – | 2 minutes | |");
     }
 }
