@@ -28,7 +28,7 @@ static int refused(uint32_t number, uint32_t index, uint32_t field)
 {
     fprintf(stderr, "refused %u: ", number);
     if (number == 2 || number == 3)
-        fprintf(stderr, "record %u, %s: ", index, fields[field]);
+        fprintf(stderr, "record %u (from 0), %s: ", index, fields[field]);
     fprintf(stderr, "%s\n", refusals[number]);
     return (int)number;
 }

@@ -24,7 +24,7 @@ const FIELDS: [&str; 7] = ["type", "prefix length", "zero octet", "address", "ow
 /// 2 and 3 have a place in the table: the index of a record, from 0, and one of its fields.
 fn refused(number: u32, index: u32, field: u32) -> ! {
     let place = match number {
-        2 | 3 => format!("record {index}, {}: ", FIELDS[field as usize]),
+        2 | 3 => format!("record {index} (from 0), {}: ", FIELDS[field as usize]),
         _ => String::new(),
     };
     eprintln!("refused {number}: {place}{}", REFUSALS[number as usize]);

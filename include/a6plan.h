@@ -7,7 +7,8 @@
  * After a refusal every lent output is zero, and so are the figures, but for the index and the field after 2 and 3.
  *
  * figures: two places or four, as each call says. With a figures slice of another length the number is 5, where the call
- * earns none that comes before 5, and all that is lent is zero, whatever the number.
+ * earns none that comes before 5, and all that is lent is zero, whatever the number. Each call lists its numbers in the order
+ * in which they are judged, unless it says otherwise.
  *
  * index, field: where a table is refused with 2 or 3, the first record at fault and the first field at fault in it, both
  * numbered from 0. For 3 that is the first DNAME whose owner an earlier DNAME has, and its owner. Zeros after any other number.

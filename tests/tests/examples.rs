@@ -84,13 +84,13 @@ fn assert_whole(program: &str) {
         break_field(&mut bad, field);
         for index in [0, 17] {
             let table = [carrier.repeat(index), bad.clone(), carrier.to_vec()].concat();
-            let words = format!("record {index}, {named}: not as it must be");
+            let words = format!("record {index} (from 0), {named}: not as it must be");
             assert_eq!(looked_up(program, slot, &table), refused(2, &words));
         }
     }
     let dname = dname_record(&name("s.a"), &name("t.a"));
     let again = dname_record(&name("S.A"), &name("u"));
-    let words = "record 2, owner: an earlier DNAME has the same (the case of letters does not count)";
+    let words = "record 2 (from 0), owner: an earlier DNAME has the same (the case of letters does not count)";
     assert_eq!(looked_up(program, slot, &[&dname[..], host, &again].concat()), refused(3, words));
 }
 
