@@ -10,7 +10,7 @@ use native.Mathlib.Omega.{arith}
 use contract.Lifetimes.{Lfts}
 use denote.Ref.{RefT, now}
 use Rattle.octets.specs.Octets.{blank}
-use Rattle.octets.specs.Answers.{earns, orElse, answerBy, outBy}
+use Rattle.octets.specs.Answers.{earns, orElse, answerBy}
 use Rattle.octets.proofs.AnswerLaws.{refused-out, by-number}
 use Rattle.labels.specs.Scan.{wellFormed}
 use Rattle.plan.specs.Layout.{addressSize}
@@ -116,10 +116,6 @@ refuses-five : (k : ℕ) → orElse k 5 ≡ 0 → ⊥
 refuses-five zero e = omega arith
 refuses-five (suc k) e = omega arith
 
--- an output of an export whose number is not 0
-cleared : (r : ℕ) (result : List ℕ) (room : ℕ) {end : List ℕ} → (r ≡ 0 → ⊥) → end ≡ outBy r result room → end ≡ blank room
-cleared r result room h o = o ∙ sym (refused-out r r refl h result room)
-
 -- `a6plan_check` with figures that are not two gives what the table earns, or else 5, and zeros in all that was lent
 pub misfit-check : (κs : Lfts 2) (table figures figured : RefT (List ℕ)) (r : ℕ)
     → a6plan-check.Learnt κs (table, (figures, tt)) r (table, (figured, tt)) → (length (now figures) ≡ 2 → ⊥)
@@ -134,7 +130,7 @@ pub misfit-lookup : (κs : Lfts 5) (table name : RefT (List ℕ)) (limit : ℕ) 
 misfit-lookup κs table name limit out end ttls left figures figured r l h =
     let e = l .0 ∙ fifth-lookup (now table) (now name) limit (length (now out)) (length (now ttls)) (length (now figures)) h in
     let z : r ≡ 0 → ⊥ = λ f. refuses-five (entryNumber (now table) (now name)) (sym e ∙ f) in
-    (e, cleared r _ _ z (l .1 .0), cleared r _ _ z (l .1 .1 .0), l .1 .1 .1 ∙ sym (placed-none _ _ h))
+    (e, l .1 .0 ∙ sym (refused-out r r refl z _ _), l .1 .1 .0 ∙ sym (refused-out r r refl z _ _), l .1 .1 .1 ∙ sym (placed-none _ _ h))
 
 -- `a6plan_reverse` with figures that are not four gives what the table earns, or else 4 for the address, or else 5, and zeros in all that was lent
 pub misfit-reverse : (κs : Lfts 4) (table address : RefT (List ℕ)) (limit : ℕ) (out end figures figured : RefT (List ℕ)) (r : ℕ)
@@ -143,7 +139,7 @@ pub misfit-reverse : (κs : Lfts 4) (table address : RefT (List ℕ)) (limit : �
     × (now end ≡ blank (length (now out))) × (now figured ≡ blank (length (now figures)))
 misfit-reverse κs table address limit out end figures figured r l h =
     let e = l .0 ∙ fifth-reverse (now table) (now address) limit (length (now out)) (length (now figures)) h in
-    (e, cleared r _ _ (λ f. refuses-five (orElse (checkOf (now table)) (earns (not (eqb (length (now address)) addressSize)) 4 0)) (sym e ∙ f)) (l .1 .0), l .1 .1 ∙ sym (placed-none _ _ h))
+    (e, l .1 .0 ∙ sym (refused-out r r refl (λ f. refuses-five (orElse (checkOf (now table)) (earns (not (eqb (length (now address)) addressSize)) 4 0)) (sym e ∙ f)) _ _), l .1 .1 ∙ sym (placed-none _ _ h))
 
 -- `a6plan_collapse` with figures that are not four gives what the table and the name earn, or else 5, and zeros in all that was lent
 pub misfit-collapse : (κs : Lfts 4) (table name : RefT (List ℕ)) (out end figures figured : RefT (List ℕ)) (r : ℕ)
@@ -151,7 +147,7 @@ pub misfit-collapse : (κs : Lfts 4) (table name : RefT (List ℕ)) (out end fig
     → (r ≡ orElse (entryNumber (now table) (now name)) 5) × (now end ≡ blank (length (now out))) × (now figured ≡ blank (length (now figures)))
 misfit-collapse κs table name out end figures figured r l h =
     let e = l .0 ∙ fifth-collapse (now table) (now name) (length (now out)) (length (now figures)) h in
-    (e, cleared r _ _ (λ f. refuses-five (entryNumber (now table) (now name)) (sym e ∙ f)) (l .1 .0), l .1 .1 ∙ sym (placed-none _ _ h))
+    (e, l .1 .0 ∙ sym (refused-out r r refl (λ f. refuses-five (entryNumber (now table) (now name)) (sym e ∙ f)) _ _), l .1 .1 ∙ sym (placed-none _ _ h))
 
 -- `a6plan_standard` with figures that are not two gives 4 for a malformed name, or else 5; all that was lent is zero (`export-standard-clears`)
 pub misfit-standard : (κs : Lfts 3) (name out end figures figured : RefT (List ℕ)) (r : ℕ)
