@@ -2,11 +2,11 @@
 use Prim.Native.Nat.{ℕ, zero, suc, _/_, _≤_, _<_}
 use mathlib.Core.Path.{_≡_, refl, ap, _∙_, sym}
 use mathlib.Core.Bool.{Bool, true, false, not}
-use mathlib.Core.List.{List}
+use mathlib.Core.List.{List, [], _∷_}
 use lib.Dec.{eqb, ltb}
 use lib.ListN.{length}
 use native.Mathlib.Omega.{arith}
-use borrow.Author.Tests.{ne-eqb}
+use borrow.Author.Tests.{ne-eqb, eqb-true, eqb-false}
 use Rattle.octets.specs.Octets.{among}
 use Rattle.octets.specs.Answers.{earns, orElse}
 use Rattle.octets.proofs.AnswerLaws.{earns-not, else-else}
@@ -36,23 +36,22 @@ module _ (w : Figured) (n : ℕ) (h : n ≡ w .wanted → ⊥) where
   exported-fifth zero later a b = exported-late w n later h b
   exported-fifth (suc e) later a b = exported-early w n (suc e) h (a (λ z. omega arith))
 
--- what is judged before 5 by each
+-- what is judged before 5: 1, 2 and 3 of the table by the check, and by the others 4 as well
+early-check : (rest : List ℕ) (e : ℕ) → e ≤ 3 → (e ≡ 0 → ⊥) → among e (1 ∷ 2 ∷ 3 ∷ rest) ≡ true
+unfolding among
+early-check rest zero l h = absurd (h refl)
+early-check rest (suc zero) l h = refl
+early-check rest (suc (suc zero)) l h = refl
+early-check rest (suc (suc (suc zero))) l h = refl
+early-check rest (suc (suc (suc (suc e)))) l h = let z : ⊥ = omega arith in absurd z
+
 early-table : (e : ℕ) → e ≤ 4 → (e ≡ 0 → ⊥) → among e (ofTable .earlier) ≡ true
 unfolding among
-early-table zero l h = absurd (h refl)
-early-table (suc zero) l h = refl
-early-table (suc (suc zero)) l h = refl
-early-table (suc (suc (suc zero))) l h = refl
-early-table (suc (suc (suc (suc zero)))) l h = refl
-early-table (suc (suc (suc (suc (suc e))))) l h = let z : ⊥ = omega arith in absurd z
-
-early-check : (e : ℕ) → e ≤ 3 → (e ≡ 0 → ⊥) → among e (ofCheck .earlier) ≡ true
-unfolding among
-early-check zero l h = absurd (h refl)
-early-check (suc zero) l h = refl
-early-check (suc (suc zero)) l h = refl
-early-check (suc (suc (suc zero))) l h = refl
-early-check (suc (suc (suc (suc e)))) l h = let z : ⊥ = omega arith in absurd z
+early-table e l h = go (eqb e 4) refl
+  where
+    go : (b : Bool) → eqb e 4 ≡ b → among e (ofTable .earlier) ≡ true
+    go true f = ap (λ (k : ℕ). among k (ofTable .earlier)) (eqb-true e 4 f)
+    go false f = early-check (4 ∷ []) e (omega (arith, eqb-false e 4 f)) h
 
 -- and what is not: no number from 1 to 4
 late-table : (k : ℕ) → ((m : ℕ) → 0 < m → m ≤ 4 → k ≡ m → ⊥) → among k (ofTable .earlier) ≡ false
@@ -76,7 +75,7 @@ fifth-check t n h = go (checkOf t) (check-most t)
   where
     go : (k : ℕ) → k ≤ 3 → exportedNumber ofCheck n k ≡ orElse k 5
     go zero l = exported-late ofCheck n 0 h refl
-    go (suc k) l = exported-early ofCheck n (suc k) h (early-check (suc k) l (λ z. omega arith))
+    go (suc k) l = exported-early ofCheck n (suc k) h (early-check [] (suc k) l (λ z. omega arith))
 
 -- Theorem: with figures that are not four `a6plan_lookup` gives what the table and the name earn, or else 5
 pub fifth-lookup : (t name : List ℕ) (limit size room n : ℕ) → (n ≡ 4 → ⊥) → exportedNumber ofTable n (lookupNumber t name limit size room) ≡ orElse (entryNumber t name) 5
