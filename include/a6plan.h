@@ -24,10 +24,10 @@
 #include <stdint.h>
 
 /* The version of this interface (CHANGELOG.md), as text and by its parts. */
-#define A6PLAN_VERSION "0.5.0"
+#define A6PLAN_VERSION "0.5.1"
 #define A6PLAN_VERSION_MAJOR 0
 #define A6PLAN_VERSION_MINOR 5
-#define A6PLAN_VERSION_PATCH 0
+#define A6PLAN_VERSION_PATCH 1
 
 /* How many elements an array has, which is the length of its slice; sizeof counts octets. Of an array, not of a pointer. */
 #define A6PLAN_COUNT(array) (sizeof (array) / sizeof (array)[0])

@@ -5,13 +5,13 @@ use a6plan_tests::generate::forward::{self as make, Tangle};
 use a6plan_tests::generate::names::{self, Name};
 use a6plan_tests::generate::plan::{self, break_field, breakable, dname_record, name};
 use a6plan_tests::generate::Random;
+use a6plan_tests::programs::{built, written};
 use a6plan_tests::reference::forward as reference;
 use a6plan_tests::reference::plan::{FIGURES, RECORD};
 use a6plan_tests::tree::{repository, text_of};
 use std::fs;
-use std::io::Write;
-use std::path::Path;
-use std::process::{Command, Stdio};
+use std::path::{Path, PathBuf};
+use std::process::Command;
 
 /// Records that the program reads, its work limit and its room.
 const RECORDS: usize = 120;
@@ -47,14 +47,7 @@ fn printed(input: &[u8]) -> String {
 
 /// Runs the program on this input and compares all that it prints.
 fn run(program: &Path, input: &[u8]) -> String {
-    let mut child =
-        Command::new(program).stdin(Stdio::piped()).stdout(Stdio::piped()).spawn().expect("the program starts");
-    let mut stdin = child.stdin.take().expect("its input");
-    // A program that has seen enough may stop reading.
-    let _ = stdin.write_all(input);
-    drop(stdin);
-    let output = child.wait_with_output().expect("the program ends");
-    let shown = String::from_utf8(output.stdout).expect("its output is text");
+    let shown = String::from_utf8(written(program, input)).expect("its output is text");
     assert_eq!(shown, printed(input), "an input of {} octets", input.len());
     shown
 }
@@ -66,21 +59,15 @@ fn slot(name: &[u8]) -> Vec<u8> {
     slot
 }
 
-/// The program where it has been built; `rt ci` builds it.
-fn program() -> Option<&'static Path> {
-    let program = Path::new(concat!(env!("CARGO_MANIFEST_DIR"), "/../target/bin/lookup"));
-    if program.exists() {
-        return Some(program);
-    }
-    println!("the program lookup is not there and is not run");
-    None
+fn program() -> Option<PathBuf> {
+    built("lookup")
 }
 
 /// The reference and the program, where it is there, print this text for this input.
 fn assert_prints(input: &[u8], text: &str) {
     assert_eq!(printed(input), text);
     if let Some(program) = program() {
-        assert_eq!(run(program, input), text);
+        assert_eq!(run(&program, input), text);
     }
 }
 
@@ -220,7 +207,7 @@ fn the_program_agrees_on_generated_input() {
             let full = 256 + RECORDS * RECORD;
             input.resize(random.pick(&[full, full + 1, full + RECORD, 2 * full]), 0);
         }
-        let shown = run(program, &input);
+        let shown = run(&program, &input);
         done += shown.contains("done") as usize;
         refused += shown.starts_with("refused") as usize;
     }

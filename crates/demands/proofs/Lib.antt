@@ -6,5 +6,6 @@ pub mod Demand3
 pub mod T02
 pub mod T03
 pub mod T04
+pub mod T05
 pub mod Examples
 pub mod Filled

@@ -6,11 +6,11 @@ use mathlib.Core.List.{List, [], _++_, append-assoc, append-nil}
 use native.Mathlib.Nat.{mod-lt, mod-eq-of-lt}
 use native.Mathlib.Omega.{arith}
 use lib.Arith.{digits-lt}
-use lib.Dec.{eqb}
+use lib.Dec.{leb, eqb}
 use lib.ListN.{length, take, drop, length-append, length-take, length-drop}
 use lib.Pow.{pow-pos, pow-add, high, low, shr-lt}
 use lib.Seq.{take-at, drop-at, take-append-add, drop-append-add, take-add, drop-drop}
-use borrow.Author.Tests.{eqb-true, eqb-false}
+use borrow.Author.Tests.{leb-true, leb-false, le-leb, lt-leb, eqb-true, eqb-false}
 use Rattle.octets.specs.Octets.{Small}
 use Rattle.bits.specs.Bits.{bitsOf, packFrom, pack}
 use Rattle.bits.specs.Packing.{Bits}
@@ -20,12 +20,13 @@ use Rattle.bits.proofs.BitLaws.{bits-length, bits-split, pack-full}
 use Rattle.bits.proofs.PackingLaws.{unpack-pack, bits-append, bits-bits, bits-mod}
 use Rattle.address.specs.declared.Order.the-variants.{Before, Same, After}
 use Rattle.address.specs.Address.{bits, joinOf}
+use Rattle.address.specs.Picture.{mix}
 use Rattle.address.specs.Order.{orderOf}
 use Rattle.octets.specs.Numbers.{valueOf, octetsOf}
 use Rattle.octets.proofs.NumberLaws.{value-append, octets-length, octets-small, value-octets, value-half, octets-value}
 use Rattle.octets.proofs.SmallLaws.{small-append}
 use Rattle.address.proofs.OrderLaws.{value-precedes, precedes-after, same-equal, equal-same}
-use Rattle.rows.specs.Halves.{addressOf}
+use Rattle.rows.specs.Halves.{addressOf, joinHalves}
 use Rattle.rows.specs.Rows.{isSame}
 use Rattle.rows.proofs.RowsLaws.{is-same}
 
@@ -81,7 +82,7 @@ unfolding joinOf
 join-is x y at = refl
 
 module _ (a b h l at : ℕ) where
-  pub join-first : at ≤ 64 → joinOf (addressOf a b) (addressOf h l) at ≡ addressOf (a / 2 ^ (64 - at) * 2 ^ (64 - at) + h % 2 ^ (64 - at)) l
+  join-first : at ≤ 64 → joinOf (addressOf a b) (addressOf h l) at ≡ addressOf (a / 2 ^ (64 - at) * 2 ^ (64 - at) + h % 2 ^ (64 - at)) l
   join-first p =
       let k = 64 - at in
       let e : 64 ≡ at + k = omega arith in
@@ -101,7 +102,7 @@ module _ (a b h l at : ℕ) where
       ∙ ap (λ (n : ℕ). pack (bitsOf n (a / 2 ^ k * 2 ^ k + h % 2 ^ k) ++ bitsOf 64 l)) (sym e)
       ∙ sym (address-pack (a / 2 ^ k * 2 ^ k + h % 2 ^ k) l)
 
-  pub join-last : 64 ≤ at → at ≤ 128 → joinOf (addressOf a b) (addressOf h l) at ≡ addressOf a (b / 2 ^ (128 - at) * 2 ^ (128 - at) + l % 2 ^ (128 - at))
+  join-last : 64 ≤ at → at ≤ 128 → joinOf (addressOf a b) (addressOf h l) at ≡ addressOf a (b / 2 ^ (128 - at) * 2 ^ (128 - at) + l % 2 ^ (128 - at))
   join-last p q =
       let k = 128 - at in
       let j = at - 64 in
@@ -122,6 +123,26 @@ module _ (a b h l at : ℕ) where
       ∙ ap pack (append-assoc (bitsOf 64 a) (bitsOf j (b / 2 ^ k)) (bitsOf k l) ∙ ap (λ (xs : List ℕ). bitsOf 64 a ++ xs) (sym (mixed-bits j k b l)))
       ∙ ap (λ (n : ℕ). pack (bitsOf 64 a ++ bitsOf n (b / 2 ^ k * 2 ^ k + l % 2 ^ k))) (sym e)
       ∙ sym (address-pack a (b / 2 ^ k * 2 ^ k + l % 2 ^ k))
+
+module _ (at : ℕ) (x y : ℕ × ℕ) where
+  pub halves-first : at ≤ 64 → joinHalves at x y ≡ (mix 64 at (x .0) (y .0), y .1)
+  unfolding joinHalves
+  halves-first p = rw (joinHalves, le-leb at 64 p)
+
+  pub halves-last : 64 < at → joinHalves at x y ≡ (x .0, mix 64 (at - 64) (x .1) (y .1))
+  unfolding joinHalves
+  halves-last p = rw (joinHalves, lt-leb at 64 p)
+
+  -- Theorem: the search's join of halves is the one join: its octets are those of `joinOf`, at each position from 0 to 128
+  pub halves-join : at ≤ 128 → addressOf (joinHalves at x y .0) (joinHalves at x y .1) ≡ joinOf (addressOf (x .0) (x .1)) (addressOf (y .0) (y .1)) at
+  halves-join p = go (leb at 64) refl
+    where
+      go : (t : Bool) → leb at 64 ≡ t → addressOf (joinHalves at x y .0) (joinHalves at x y .1) ≡ joinOf (addressOf (x .0) (x .1)) (addressOf (y .0) (y .1)) at
+      go true e = let q = leb-true at 64 e in rw (halves-first q) (sym (join-first (x .0) (x .1) (y .0) (y .1) at q))
+      go false e =
+          let q = leb-false at 64 e in
+          let k : 64 - (at - 64) ≡ 128 - at = omega arith in
+          rw (halves-last q, k) (sym (join-last (x .0) (x .1) (y .0) (y .1) at (omega arith) p))
 
 -- ---- an address in memory, and its halves
 pub address-length : (h l : ℕ) → length (addressOf h l) ≡ 16

@@ -2,7 +2,7 @@
 
 use super::names::{self, Unit};
 use super::plan::RECORD;
-use super::{demand, plan, table_answer, Answer};
+use super::{address, demand, plan, table_answer, Answer};
 
 /// A record: its octets and what they say.
 struct Record<'a> {
@@ -33,13 +33,7 @@ impl Record<'_> {
     /// This record with another one of its target folded into it: the owner is spelt as here, the target as there.
     fn folded(&self, other: &Record) -> Vec<u8> {
         let mut octets = vec![0, 38, other.octets[2], 0];
-        for at in 0..16 {
-            let bit = |bit: usize| {
-                let from = if at * 8 + bit < self.length { other } else { self };
-                from.octets[4 + at] & 128 >> bit
-            };
-            octets.push((0..8).map(bit).sum());
-        }
+        octets.extend(address::join(&other.octets[4..20], &self.octets[4..20], self.length));
         octets.extend(plan::owner_slot(self.octets));
         octets.extend(plan::target_slot(other.octets));
         octets.extend(plan::ttl(self.octets).min(plan::ttl(other.octets)).to_be_bytes());

@@ -2,6 +2,7 @@
 //! bit, records compared by pairs.
 
 pub mod a6;
+pub mod address;
 pub mod collapse;
 pub mod draft;
 pub mod forward;

@@ -2,6 +2,7 @@
 //! allocation where it matters, outputs into lent memory. It takes nothing from the library's code.
 
 pub mod a6;
+pub mod address;
 pub mod collapse;
 pub mod draft;
 pub mod forward;

@@ -1,21 +1,16 @@
--- `address::octet` meets its contract: the mask picks the first bits of one octet and the rest of the other.
-use Prim.Native.Nat.{_-_, _*_, min}
-use native.Mathlib.Omega.{arith}
-use Rattle.address.proofs.JoinLaws.{mask-mix}
-use borrow.Author.Needs.{needs}
+-- `address::octet` meets its contract.
+use borrow.Author.Tests.{eq-eqb, ne-eqb, lt-ltb, le-ltb}
 use Rattle.address.proofs.octet.Statement.{statement}
 use Rattle.address.proofs.octet.Tie as tie
 
-mask-requires : tie.Need-mask-requires
-mask-requires c κs = search needs
-
-sub-result : tie.Need-sub-result
-sub-result c = search needs
-
 returns : tie.Need-returns
-returns c =
-    let a = c .before .args in
-    rw (c .mask .ensures) (mask-mix (min 8 (a .at - a .k * 8)) (a .high) (a .low) (omega arith) (omega arith))
+returns c = let a = c .before .args in rw (eq-eqb (a .k) (a .place) (c .if1 .taken))
+
+returns-2 : tie.Need-returns-2
+returns-2 c = let a = c .before .before .args in rw (ne-eqb (a .k) (a .place) (c .before .if1 .left), lt-ltb (a .k) (a .place) (c .if2 .taken))
+
+returns-3 : tie.Need-returns-3
+returns-3 c = let a = c .before .before .args in rw (ne-eqb (a .k) (a .place) (c .before .if1 .left), le-ltb (a .k) (a .place) (c .if2 .left))
 
 pub octet-spec : {M : Type 1} → statement M
-octet-spec = tie.close (tie.spec mask-requires sub-result returns)
+octet-spec = tie.close (tie.spec returns returns-2 returns-3)

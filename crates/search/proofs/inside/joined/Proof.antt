@@ -1,10 +1,10 @@
--- `search::inside::joined` meets its contract: joining halves is joining addresses.
-use Prim.Native.Nat.{_+_, _*_}
-use mathlib.Core.Path.{sym}
+-- `search::inside::joined` meets its contract: what it makes are the joined halves, and joining halves is joining addresses.
+use Prim.Native.Nat.{ℕ, _-_, _+_, _*_}
+use mathlib.Core.Path.{_≡_}
 use lib.ListN.{getD}
 use native.Mathlib.Omega.{arith}
 use borrow.Author.Needs.{needs}
-use Rattle.rows.proofs.HalvesLaws.{join-first, join-last}
+use Rattle.rows.proofs.HalvesLaws.{halves-first, halves-last, halves-join}
 use Rattle.search.specs.Search.{maxRecords}
 use Rattle.search.proofs.inside.joined.Statement.{statement}
 use Rattle.search.proofs.inside.joined.Tie as tie
@@ -24,7 +24,8 @@ mixed-requires c κs = search needs
 returns : tie.Need-returns
 returns c =
     let a = c .before .before .before .args in
-    rw (c .mixed .ensures) (sym (join-first (getD (a .fields .now) (maxRecords + a .i) 0) (getD (a .fields .now) (2 * maxRecords + a .i) 0) (a .high) (a .low) (a .bound) (c .before .if1 .taken)))
+    let x : ℕ × ℕ = (getD (a .fields .now) (maxRecords + a .i) 0, getD (a .fields .now) (2 * maxRecords + a .i) 0) in
+    rw (c .mixed .ensures) (rw (halves-first (a .bound) x (a .high, a .low) (c .before .if1 .taken)) at (halves-join (a .bound) x (a .high, a .low) (omega arith)))
 
 add-mixed : tie.Need-add-mixed
 add-mixed c = search needs
@@ -44,7 +45,10 @@ mixed-requires-2 c κs = search needs
 returns-2 : tie.Need-returns-2
 returns-2 c =
     let a = c .before .before .before .before .args in
-    rw (c .mixed2 .ensures) (sym (join-last (getD (a .fields .now) (maxRecords + a .i) 0) (getD (a .fields .now) (2 * maxRecords + a .i) 0) (a .high) (a .low) (a .bound) (omega (arith, c .before .before .if1 .left)) (omega arith)))
+    let x : ℕ × ℕ = (getD (a .fields .now) (maxRecords + a .i) 0, getD (a .fields .now) (2 * maxRecords + a .i) 0) in
+    let q = c .before .before .if1 .left in
+    let k : 64 - (a .bound - 64) ≡ 128 - a .bound = omega arith in
+    rw (c .mixed2 .ensures) (rw (halves-last (a .bound) x (a .high, a .low) q, k) at (halves-join (a .bound) x (a .high, a .low) (omega arith)))
 
 pub joined-spec : {M : Type 1} → statement M
 joined-spec =
