@@ -15,7 +15,7 @@ use std::fs;
 const CASE: usize = 33;
 const PAIRS: usize = 7;
 
-/// Pairs of addresses: those that differ in every bit, in one bit at each place, and any.
+/// Pairs of addresses: those that differ in every bit, in one bit or one octet at each place, and any.
 fn pairs() -> Vec<[u128; 2]> {
     let mut pairs = vec![[u128::MAX, 0], [0, u128::MAX], [0x5555 * (u128::MAX / 0xffff), 0xaaaa * (u128::MAX / 0xffff)]];
     pairs.extend((0..128).map(|number| [1 << number, 0]));
@@ -76,7 +76,7 @@ fn a_case_cut_short_gets_no_answer() {
 
 /// A host of a carrier, one record each: the collapse writes the joined address and a lookup gives it.
 #[test]
-fn a_collapse_and_a_lookup_join_alike_at_every_position() {
+fn a_collapse_and_a_lookup_join_alike_at_every_prefix_length() {
     let (host, carrier) = (name("host.site"), name("carrier"));
     let mut sides = Sides::new(4 * RECORD);
     for [high, low] in pairs() {
@@ -92,22 +92,37 @@ fn a_collapse_and_a_lookup_join_alike_at_every_position() {
     }
 }
 
-/// The rows of octets in FORMATS, as it draws a join inside an octet and at an edge.
+/// The octets of a row of a drawing: its words of two capital hexadecimal digits.
+fn octets(line: &str) -> Vec<u8> {
+    let words = line.split_whitespace().filter(|word| word.len() == 2 && *word == word.to_uppercase());
+    words.filter_map(|word| u8::from_str_radix(word, 16).ok()).collect()
+}
+
+/// FORMATS draws the first two stored cases, one inside an octet and one at an edge: position, rows of octets, and bits.
 #[test]
 fn formats_draws_the_stored_cases() {
     let read = |file: &str| fs::read(repository().join("crates/joins").join(file)).expect("a stored file");
     let (cases, joined) = (read("stdin"), read("stdout"));
     let formats = text_of("docs/FORMATS.md");
-    let rows: Vec<Vec<u8>> = formats
-        .lines()
-        .filter_map(|line| {
-            let octets = line.split_whitespace().filter(|word| word.len() == 2 && *word == word.to_uppercase());
-            octets.map(|word| u8::from_str_radix(word, 16).ok()).collect::<Option<Vec<u8>>>()
-        })
-        .filter(|row| row.len() == 16)
-        .collect();
-    for (case, joined) in cases.chunks(CASE).zip(joined.chunks(16)).take(2) {
-        let picture = [&case[..16], &case[16..32], joined];
-        assert!(rows.windows(3).any(|rows| rows == picture), "FORMATS draws the join at {}", case[32]);
+    for (number, joined) in joined.chunks(16).take(2).enumerate() {
+        let case = &cases[number * CASE..][..CASE];
+        let (first, second, place, bits) = (&case[..16], &case[16..32], case[32] as usize / 8, case[32] % 8);
+        let heading = match number {
+            0 => format!("Position {}, inside octet {place}:", case[32]),
+            _ => format!("Position {}, at the edge between octets {} and {place}:", case[32], place - 1),
+        };
+        assert_eq!(bits == 0, number == 1);
+        let lines: Vec<&str> = formats.lines().skip_while(|line| *line != heading).collect();
+        let rows: Vec<Vec<u8>> = lines.iter().map(|line| octets(line)).filter(|row| row.len() == 16).collect();
+        assert_eq!(rows[..3], [first, second, joined], "the rows under {heading:?}");
+        if bits > 0 {
+            for octet in [first[place], second[place], joined[place]] {
+                let (left, right) = (octet >> (8 - bits), octet & (255 >> bits));
+                let (width, rest) = (bits as usize, 8 - bits as usize);
+                let line = format!("{octet:02X} = {left:0width$b} {right:0rest$b}");
+                assert!(lines.iter().any(|shown| shown.ends_with(&line)), "{line} under {heading:?}");
+            }
+        }
     }
+    assert!(joined.len() >= 32);
 }

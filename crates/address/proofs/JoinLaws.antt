@@ -72,7 +72,7 @@ join-octets (suc k) at (x ∷ xs) (y ∷ ys) s e p =
     let z : at - suc k * 8 ≡ at - 8 - k * 8 = omega arith in
     rw (join-step at x y xs ys (s 0), z) (join-octets k (at - 8) xs ys (λ i. s (suc i)) (omega arith) (omega arith))
 
--- Theorem: each octet of a join has so many first bits of that of the first address and the other bits of that of the second
+-- Theorem: each octet of a join has as many first bits as stand before the position of the first address, and its other bits of the second
 pub join-octet : (h l : List ℕ) (at k : ℕ) → length h ≡ 16 → length l ≡ 16 → Small h → k < 16
     → getD (joinOf h l at) k 0 ≡ mix 8 (min 8 (at - k * 8)) (getD h k 0) (getD l k 0)
 unfolding joinOf pack packFrom bits unpack

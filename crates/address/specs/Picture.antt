@@ -1,5 +1,5 @@
--- The picture of a join in octets (T-05), as field staff follow it. It is the join by bits, `joinOf` (theorem `picture` in proofs/JoinLaws): it is enough to believe
--- either.
+-- The picture of a join in octets (T-05), as field staff follow it. From 0 to 128 it is the join by bits, `joinOf` (theorem `picture` in proofs/JoinLaws), and it is
+-- enough to believe either.
 use Prim.Native.Nat.{ℕ, _+_, _-_, _*_, _/_, _%_, _^_}
 use mathlib.Core.Bool.{true, false}
 use mathlib.Core.List.{List, [], _∷_, _++_}

@@ -20,9 +20,8 @@ pub fn join(high: [u8; 16], low: [u8; 16], at: u8) -> [u8; 16]
     ensures { λ r. ⌜ r ≡ joinOf high low at ⌝ }
 {
     let place = octets::wide(at / 8);
-    // from 128 on no octet of an address is in its place, and the mixed one, whichever it is, is not chosen
-    let one = place % 16;
-    let mixed = mix(high[one], low[one], at % 8);
+    // From 128 on the place is past the last octet and no octet is the mixed one; modulo 16 it stays inside the arrays.
+    let mixed = mix(high[place % 16], low[place % 16], at % 8);
     let mut out = low;
     let mut k: usize = 0;
     while k < 16 {
@@ -85,7 +84,7 @@ fn mix(high: u8, low: u8, n: u8) -> u8
 }
 
 // Octet k of a join: the mixed one in its place, whole ones of `high` before it and of `low` after it.
-// Asked in this order, it compiles to a choice without a branch for all sixteen octets at once.
+// Asked in this order, it compiles to whole words without a branch.
 fn octet(high: u8, mixed: u8, low: u8, k: usize, place: usize) -> u8
     ensures { λ r. ⌜ r ≡ elim (eqb k place) [ true ↦ mixed | false ↦ elim (ltb k place) [ true ↦ high | false ↦ low ] ] ⌝ }
 {

@@ -20,11 +20,12 @@ use Rattle.bits.proofs.BitLaws.{bits-length, bits-split, pack-full}
 use Rattle.bits.proofs.PackingLaws.{unpack-pack, bits-append, bits-bits, bits-mod}
 use Rattle.address.specs.declared.Order.the-variants.{Before, Same, After}
 use Rattle.address.specs.Address.{bits, joinOf}
-use Rattle.address.specs.Picture.{mix}
+use Rattle.address.specs.Picture.{mix, joinOctets}
 use Rattle.address.specs.Order.{orderOf}
 use Rattle.octets.specs.Numbers.{valueOf, octetsOf}
 use Rattle.octets.proofs.NumberLaws.{value-append, octets-length, octets-small, value-octets, value-half, octets-value}
 use Rattle.octets.proofs.SmallLaws.{small-append}
+use Rattle.address.proofs.JoinLaws.{picture}
 use Rattle.address.proofs.OrderLaws.{value-precedes, precedes-after, same-equal, equal-same}
 use Rattle.rows.specs.Halves.{addressOf, joinHalves}
 use Rattle.rows.specs.Rows.{isSame}
@@ -152,6 +153,12 @@ address-length h l = length-append (octetsOf 8 h) (octetsOf 8 l) ∙ omega (arit
 pub address-small : (h l : ℕ) → Small (addressOf h l)
 unfolding addressOf
 address-small h l = small-append (octetsOf 8 h) (octetsOf 8 l) (octets-small 8 h) (octets-small 8 l)
+
+-- Theorem: both joins that run are one: the octets of joined halves are the picture, which `address::join` gives
+pub halves-picture : (at : ℕ) (x y : ℕ × ℕ) → at ≤ 128 → addressOf (joinHalves at x y .0) (joinHalves at x y .1) ≡ joinOctets at (addressOf (x .0) (x .1)) (addressOf (y .0) (y .1))
+halves-picture at x y p =
+    halves-join at x y p
+    ∙ sym (picture (addressOf (x .0) (x .1)) (addressOf (y .0) (y .1)) at (address-length (x .0) (x .1)) (address-length (y .0) (y .1)) (address-small (x .0) (x .1)) p (address-small (y .0) (y .1)))
 
 module _ (o : List ℕ) (at : ℕ) (n : at + 16 ≤ length o) (s : Small o) where
   abbrev first : List ℕ

@@ -10,6 +10,6 @@ use Rattle.address.specs.Picture.{mix}
 unfoldable pub addressOf : ℕ → ℕ → List ℕ
 addressOf high low = octetsOf 8 high ++ octetsOf 8 low
 
--- the halves of two addresses joined at a position from 0 to 128: the half that the position is in is mixed of both
+-- the halves of two addresses joined at a position from 0 to 128: up to 64 the first half is mixed of both, past 64 the last one
 unfoldable pub joinHalves : ℕ → ℕ × ℕ → ℕ × ℕ → ℕ × ℕ
 joinHalves at high low = elim (leb at 64) [ true ↦ (mix 64 at (high .0) (low .0), low .1) | false ↦ (high .0, mix 64 (at - 64) (high .1) (low .1)) ]

@@ -3,8 +3,8 @@
 //! One pass checks the table, notes where the A6 records of each owner stand, and finds the shortest record that refers
 //! to the name. The records to be folded are then known by their places; all between them is copied in one piece.
 
-use super::names;
-use super::plan::{self, Index, A6, FIGURES, FIRST, MOST, RECORD};
+use super::plan::{self, Index, A6, FIGURES, MOST, RECORD};
+use super::{address, names};
 
 /// The records that take the place of this one: those of its target that are no longer.
 #[inline(always)]
@@ -67,9 +67,8 @@ pub fn collapse(table: &[u8], name: &[u8], out: &mut [u8], figures: &mut [u32]) 
         from = (at + 1) * RECORD;
         let record = plan::record(table, at);
         let (owner, bits) = (plan::owner_of(record), plan::address_of(record));
-        let first = FIRST[plan::length_of(record) as usize];
         for follower in followers(table, &index, record) {
-            let address = plan::address_of(follower) & first | bits;
+            let address = address::join(plan::address_of(follower), bits, plan::length_of(record));
             let length = plan::length_of(follower);
             let ttl = plan::ttl_of(record).min(plan::ttl_of(follower));
             plan::put_a6(&mut out[to..], length, address, owner, plan::target_of(follower), ttl);

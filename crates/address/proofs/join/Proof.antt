@@ -15,10 +15,10 @@ use Rattle.address.proofs.join.Statement.{statement}
 use Rattle.address.proofs.join.Tie as tie
 
 abbrev Inv-loop : tie.InvT-loop
-Inv-loop at high low place one mixed out₀ k₀ out k = (k ≤ 16) × (length out ≡ 16) × (take k out ≡ take k (joinOf high low at))
+Inv-loop at high low place mixed out₀ k₀ out k = (k ≤ 16) × (length out ≡ 16) × (take k out ≡ take k (joinOf high low at))
 
 abbrev μ-loop : tie.MeasureT-loop
-μ-loop at high low place one mixed out₀ k₀ out k = 16 - k
+μ-loop at high low place mixed out₀ k₀ out k = 16 - k
 
 small-high : (c : tie.Start Inv-loop μ-loop) → Small (c .args .t1)
 small-high c i = let f : Fits w8 (getD (c .args .t1) i 0) = search needs in f .fits
