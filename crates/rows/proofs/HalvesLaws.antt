@@ -125,6 +125,7 @@ module _ (a b h l at : ℕ) where
       ∙ ap (λ (n : ℕ). pack (bitsOf 64 a ++ bitsOf n (b / 2 ^ k * 2 ^ k + l % 2 ^ k))) (sym e)
       ∙ sym (address-pack a (b / 2 ^ k * 2 ^ k + l % 2 ^ k))
 
+-- the joined halves of two addresses, up to 64 and past it
 module _ (at : ℕ) (x y : ℕ × ℕ) where
   pub halves-first : at ≤ 64 → joinHalves at x y ≡ (mix 64 at (x .0) (y .0), y .1)
   unfolding joinHalves
