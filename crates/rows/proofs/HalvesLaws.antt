@@ -83,7 +83,7 @@ unfolding joinOf
 join-is x y at = refl
 
 module _ (a b h l at : ℕ) where
-  join-first : at ≤ 64 → joinOf (addressOf a b) (addressOf h l) at ≡ addressOf (a / 2 ^ (64 - at) * 2 ^ (64 - at) + h % 2 ^ (64 - at)) l
+  join-first : at ≤ 64 → joinOf (addressOf a b) (addressOf h l) at ≡ addressOf (mix 64 at a h) l
   join-first p =
       let k = 64 - at in
       let e : 64 ≡ at + k = omega arith in
@@ -100,13 +100,13 @@ module _ (a b h l at : ℕ) where
       join-is (addressOf a b) (addressOf h l) at
       ∙ (λ i. pack ((ap (take at) (address-bits a b) ∙ t) i ++ (ap (drop at) (address-bits h l) ∙ d) i))
       ∙ ap pack (sym (append-assoc (bitsOf at (a / 2 ^ k)) (bitsOf k h) (bitsOf 64 l)) ∙ ap (λ (xs : List ℕ). xs ++ bitsOf 64 l) (sym (mixed-bits at k a h)))
-      ∙ ap (λ (n : ℕ). pack (bitsOf n (a / 2 ^ k * 2 ^ k + h % 2 ^ k) ++ bitsOf 64 l)) (sym e)
-      ∙ sym (address-pack (a / 2 ^ k * 2 ^ k + h % 2 ^ k) l)
+      ∙ ap (λ (n : ℕ). pack (bitsOf n (mix 64 at a h) ++ bitsOf 64 l)) (sym e)
+      ∙ sym (address-pack (mix 64 at a h) l)
 
-  join-last : 64 ≤ at → at ≤ 128 → joinOf (addressOf a b) (addressOf h l) at ≡ addressOf a (b / 2 ^ (128 - at) * 2 ^ (128 - at) + l % 2 ^ (128 - at))
+  join-last : 64 ≤ at → at ≤ 128 → joinOf (addressOf a b) (addressOf h l) at ≡ addressOf a (mix 64 (at - 64) b l)
   join-last p q =
-      let k = 128 - at in
       let j = at - 64 in
+      let k = 64 - j in
       let e : 64 ≡ j + k = omega arith in
       let m : at ≡ 64 + j = omega arith in
       let t : take at (bitsOf 64 a ++ bitsOf 64 b) ≡ bitsOf 64 a ++ bitsOf j (b / 2 ^ k) =
@@ -122,8 +122,8 @@ module _ (a b h l at : ℕ) where
       join-is (addressOf a b) (addressOf h l) at
       ∙ (λ i. pack ((ap (take at) (address-bits a b) ∙ t) i ++ (ap (drop at) (address-bits h l) ∙ d) i))
       ∙ ap pack (append-assoc (bitsOf 64 a) (bitsOf j (b / 2 ^ k)) (bitsOf k l) ∙ ap (λ (xs : List ℕ). bitsOf 64 a ++ xs) (sym (mixed-bits j k b l)))
-      ∙ ap (λ (n : ℕ). pack (bitsOf 64 a ++ bitsOf n (b / 2 ^ k * 2 ^ k + l % 2 ^ k))) (sym e)
-      ∙ sym (address-pack a (b / 2 ^ k * 2 ^ k + l % 2 ^ k))
+      ∙ ap (λ (n : ℕ). pack (bitsOf 64 a ++ bitsOf n (mix 64 j b l))) (sym e)
+      ∙ sym (address-pack a (mix 64 j b l))
 
 -- the joined halves of two addresses, up to 64 and past it
 module _ (at : ℕ) (x y : ℕ × ℕ) where
@@ -143,8 +143,7 @@ module _ (at : ℕ) (x y : ℕ × ℕ) where
       go true e = let q = leb-true at 64 e in rw (halves-first q) (sym (join-first (x .0) (x .1) (y .0) (y .1) at q))
       go false e =
           let q = leb-false at 64 e in
-          let k : 64 - (at - 64) ≡ 128 - at = omega arith in
-          rw (halves-last q, k) (sym (join-last (x .0) (x .1) (y .0) (y .1) at (omega arith) p))
+          rw (halves-last q) (sym (join-last (x .0) (x .1) (y .0) (y .1) at (omega arith) p))
 
 -- ---- an address in memory, and its halves
 pub address-length : (h l : ℕ) → length (addressOf h l) ≡ 16
