@@ -1,4 +1,6 @@
 // A6 data: a value, its reader and its writer (01, A6 data).
+#![tactic(auto)]
+
 ghost use Rattle.std.specs.Prelude.{◌≡◌, length};
 ghost use Rattle.a6.specs.Read.{read_of};
 ghost use Rattle.a6.specs.Write.{write_answer, write_out};

@@ -1,4 +1,6 @@
 // The C interface: each function takes slices and numbers, asks nothing of its caller, and returns the number of 01 (What comes back).
+#![tactic(auto)]
+
 ghost use Rattle.std.specs.Prelude.{◌≡◌, true, false, ◌≤◌, length};
 ghost use Rattle.octets.specs.Octets.{blank, flat, among};
 ghost use Rattle.octets.specs.Answers.{answer_by, out_by};

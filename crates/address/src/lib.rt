@@ -1,4 +1,6 @@
 // Addresses: sixteen octets as 128 bits, bit 0 the highest.
+#![tactic(auto)]
+
 ghost use Rattle.std.specs.Prelude.{◌≡◌, true, false, ◌/◌, ◌%◌, ◌<◌, min, eqb, ltb};
 ghost use Rattle.address.specs.Address.{join_of, clear_to};
 ghost use Rattle.address.specs.Picture.{mix};

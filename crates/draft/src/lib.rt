@@ -1,4 +1,6 @@
 // The layout of the 1998 draft: its reader and its writer, of the same values as A6 data (T-02).
+#![tactic(auto)]
+
 ghost use Rattle.std.specs.Prelude.{◌≡◌, length};
 ghost use Rattle.draft.specs.Read.{draft_reading};
 ghost use Rattle.draft.specs.Write.{draft_answer, draft_out};

@@ -10,6 +10,8 @@
 //     ; TEXT                             prints nothing
 //
 // Any other line is printed as it is. The stored script has the examples of RFC 2874, section 5, of 01, of T-03 and of T-04.
+#![tactic(auto)]
+
 ghost use Rattle.std.specs.Prelude.{◌≡◌, ◌+◌, ◌≤◌, length};
 ghost use Rattle.plan.specs.Layout.{record_size};
 

@@ -1,4 +1,6 @@
 // Address lookup: every address of a name, by all its complete chains, loops included (01, Chains), and how long each lives (T-01).
+#![tactic(auto)]
+
 ghost use Rattle.std.specs.Prelude.{◌≡◌, true, ◌*◌, ◌/◌, ◌%◌, length};
 ghost use Rattle.octets.specs.Octets.{blank};
 ghost use Rattle.names.specs.Standard.{in_standard_form};

@@ -1,6 +1,8 @@
 // Joins addresses on standard input, so that the tests reach `address::join` itself (01, Chains; T-05). A case is 33 octets: the first address, the second and a
 // position, which may be any octet. Writes the sixteen octets of each joined address, one after the other. Of an input of more than 1,792 cases the rest is not
 // read, and a case that is cut short gets no answer.
+#![tactic(auto)]
+
 ghost use Rattle.std.specs.Prelude.{◌≡◌, length};
 
 use libc::{STDIN_FILENO, STDOUT_FILENO};

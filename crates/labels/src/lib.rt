@@ -1,4 +1,6 @@
 // Names in wire form, label by label: the one reader of names (01, Names).
+#![tactic(auto)]
+
 ghost use Rattle.std.specs.Prelude.{◌≡◌, ◌≤◌, ◌<◌, length, get_or, drop};
 ghost use Rattle.labels.specs.Scan.{scan_of};
 ghost use Rattle.labels.specs.Answers.{scanned, unread};

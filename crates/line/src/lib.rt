@@ -1,4 +1,6 @@
 // Zone lines (T-06).
+#![tactic(auto)]
+
 ghost use Rattle.std.specs.Prelude.{◌≡◌, length};
 ghost use Rattle.line.specs.Answers.{write_line_answer, write_line_out, read_line_answer, read_line_out};
 

@@ -1,6 +1,8 @@
 // Looks a name up in a plan on standard input: a name slot of 256 octets, then up to 120 records. Prints each address as a line of 32 hex
 // digits, then `done`, the count and the work; a refusal prints only `refused` and its number (01, program lookup),
 // and for 2 and 3 the index of the record and the number of its field (T-04).
+#![tactic(auto)]
+
 use libc::{STDIN_FILENO, STDOUT_FILENO};
 
 // The octets of a slot, and the most octets that are read: the slot and 120 records.

@@ -1,4 +1,6 @@
 // Names: put in standard form, compared, held by value (01, Names).
+#![tactic(auto)]
+
 ghost use Rattle.std.specs.Prelude.{◌≡◌, true, ◌++◌, ◌+◌, ◌-◌, ◌*◌, ◌/◌, ◌%◌, ◌≤◌, ◌<◌, length, get_or};
 ghost use Rattle.octets.specs.Octets.{blank};
 ghost use Rattle.labels.specs.Scan.{scan_of, well_formed};

@@ -1,4 +1,6 @@
 // Names in text (T-06).
+#![tactic(auto)]
+
 ghost use Rattle.std.specs.Prelude.{◌≡◌, length};
 ghost use Rattle.text.specs.Digits.{between};
 ghost use Rattle.nametext.specs.Characters.{is_plain};

@@ -1,4 +1,6 @@
 // Octets and answers: what every layer above shares.
+#![tactic(auto)]
+
 ghost use Rattle.std.specs.Prelude.{◌≡◌, ◌<◌, length};
 ghost use Rattle.octets.specs.Octets.{blank, same};
 ghost use Rattle.octets.specs.Answers.{refusal};

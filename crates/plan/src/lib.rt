@@ -1,4 +1,6 @@
 // The plan table: its layout, its check, which says which record (T-04), and the owner part (01, The plan table; T-01).
+#![tactic(auto)]
+
 ghost use Rattle.std.specs.Prelude.{◌≡◌, true, ◌≤◌, ◌<◌, length};
 ghost use Rattle.octets.specs.Octets.{among};
 ghost use Rattle.octets.specs.Answers.{refusal};

@@ -1,4 +1,6 @@
 // Reverse lookup by DNAME records (01, Reverse names).
+#![tactic(auto)]
+
 ghost use Rattle.std.specs.Prelude.{◌≡◌, ◌+◌, ◌<◌, length};
 ghost use Rattle.octets.specs.Octets.{blank};
 ghost use Rattle.names.specs.Standard.{encode};

@@ -1,2 +1,4 @@
 // The addresses that a search has found: rows of sixteen octets in a lent output, ascending, each address once.
+#![tactic(auto)]
+
 pub mod inside;

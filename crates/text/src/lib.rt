@@ -1,4 +1,6 @@
 // Numbers and addresses in text: each with a writer into an output, and a reader from a place.
+#![tactic(auto)]
+
 ghost use Rattle.std.specs.Prelude.{◌≡◌, length};
 ghost use Rattle.text.specs.Decimal.{write_decimal};
 ghost use Rattle.text.specs.Answers.{text_answer, text_out};
