@@ -32,8 +32,8 @@ long c = c.before.before.before.before.clear.auto.0
 zeros : (c : tie.After-number-of) → c.before.before.before.before.clear.new.0 ≡ blank (room c)
 zeros c = c.before.before.before.before.clear.ensures
 
-number_is : (c : tie.After-number-of) → c.number_of_lem.result ≡ standard_number (name c) (room c)
-number_is c = c.number_of_lem.ensures ∙ ap (standard_number (name c)) (long c)
+number_is : (c : tie.After-number-of) → c.number_of.result ≡ standard_number (name c) (room c)
+number_is c = c.number_of.ensures ∙ ap (standard_number (name c)) (long c)
 
 -- where it is 0: the name is well formed, and the output has 255 octets
 done : (c : tie.Else1) → (well_formed (name c.before) ≡ true) × (room c.before ≡ 255)
@@ -57,7 +57,7 @@ same_length c = search rules
 returns : tie.Need-returns
 returns c =
     let n = c.before.before in
-    let k = n.number_of_lem.result in (
+    let k = n.number_of.result in (
       c.refused.ensures ∙ refused_answer k _ (number_is n) c.before.if1.true (length (standard_of (name n))) 0,
       zeros n ∙ refused_out k _ (number_is n) c.before.if1.true (standard_of (name n)) (room n),
     )

@@ -56,7 +56,7 @@ keep_sought_requires : tie.Need-keep-sought-requires
 keep_sought_requires c κs =
     let h = c.before.before.before.before in
     let p = (begun h).requires in
-    let l = h.before.spot_of_lem.ensures in
+    let l = h.before.spot_of.ensures in
     ((p.0, p.1, p.2), (omega arith, omega arith, p.4))
 
 same_length_3 : tie.Need-same-length-3
