@@ -31,47 +31,47 @@ bits_here t c = at_bits (name t c.before.before.before.before.before.before.befo
 
 -- ---- and what it owes
 pub bounds-name-at : goal.bounds-name-at
-bounds-name-at t c = omega (arith, inside t c.before.before.before.before)
+bounds-name-at t c = omega (arith, inside t (goal.at.bounds-name-at t c).Start)
 
 pub bounds-out-to : goal.bounds-out-to
-bounds-out-to t c = omega (arith, (inside t c.before.before.before.before.before).room)
+bounds-out-to t c = omega (arith, (inside t (goal.at.bounds-out-to t c).Start).room)
 
 pub overflow_add-out : goal.overflow_add-out
-overflow_add-out t c = omega (arith, inside t c.before.before.before.before.before)
+overflow_add-out t c = omega (arith, inside t (goal.at.overflow_add-out t c).Start)
 
 pub bounds-out-to-then-name-at-ne65 : goal.bounds-out-to-then-name-at-ne65
 bounds-out-to-then-name-at-ne65 t c =
-    omega (arith, (inside t c.before.before.before.before.before).room, length-set c.args.out.now c.args.to 65)
+    omega (arith, (inside t (goal.at.bounds-out-to-then-name-at-ne65 t c).Start).room, length-set c.args.out.now c.args.to 65)
 
 pub overflow_add-packer : goal.overflow_add-packer
-overflow_add-packer t c = omega (arith, inside t c.before.before.before.before.before)
+overflow_add-packer t c = omega (arith, inside t (goal.at.overflow_add-packer t c).Start)
 
 pub returns-then-name-at-ne65 : goal.returns-then-name-at-ne65
 returns-then-name-at-ne65 t c =
     let a = c.args in
-    ran_none a.name.now a.out.now a.at a.sum a.to _ c.requires.begins c.if-name-at-ne65.true (omega (arith, (inside t c.before.before.before.before.before).room)) c.requires.sum_bound.2 refl
+    ran_none a.name.now a.out.now a.at a.sum a.to _ c.requires.begins c.if-name-at-ne65.true (omega (arith, (inside t (goal.at.returns-then-name-at-ne65 t c).Start).room)) c.requires.sum_bound.2 refl
 
 pub overflow_add-at : goal.overflow_add-at
-overflow_add-at t c = omega (arith, inside t c.before.before.before.before.before)
+overflow_add-at t c = omega (arith, inside t (goal.at.overflow_add-at t c).Start)
 
 pub bounds-name-at-2 : goal.bounds-name-at-2
 bounds-name-at-2 t c = omega (arith, (bits_there t (goal.at.bounds-name-at-2 t c).Else-name-at-ne65).inside)
 
 pub overflow_add-a : goal.overflow_add-a
-overflow_add-a t c = omega (arith, inside t c.before.before.before.before.before.before.before)
+overflow_add-a t c = omega (arith, inside t (goal.at.overflow_add-a t c).Start)
 
 pub overflow_add-e : goal.overflow_add-e
 overflow_add-e t c = omega (arith, c.count-n.ensures.2)
 
 pub overflow_add-e-2 : goal.overflow_add-e-2
-overflow_add-e-2 t c = omega (arith, inside t c.before.before.before.before.before.before.before, c.count-n.ensures.2)
+overflow_add-e-2 t c = omega (arith, inside t (goal.at.overflow_add-e-2 t c).Start, c.count-n.ensures.2)
 
 pub overflow_add-sum : goal.overflow_add-sum
-overflow_add-sum t c = omega (arith, inside t c.before.before.before.before.before.before.before, c.count-n.ensures.2)
+overflow_add-sum t c = omega (arith, inside t (goal.at.overflow_add-sum t c).Start, c.count-n.ensures.2)
 
 pub pack_run-r-requires : goal.pack_run-r-requires
 pack_run-r-requires t c =
-    let w = inside t c.before.before.before.before.before.before.before.before in
+    let w = inside t (goal.at.pack_run-r-requires t c).Start in
     let b = bits_here t (goal.at.pack_run-r-requires t c).After-count-n in
     (omega (arith, b.inside), (b.begins, (omega arith, omega (arith, b.inside), c.requires.sum_bound.2)))
 
@@ -80,7 +80,7 @@ append-packer-requires t c =
     let r = c.pack_run-r in
     let a = c.args in
     let n = c.count-n.result in
-    let y = ran_ready a.name.now a.out.now _ a.at n (a.sum + n) a.to r.result (bits_here t (goal.at.append-packer-requires t c).After-count-n) r.ensures r.auto.out (omega (arith, (inside t c.before.before.before.before.before.before.before.before.before.before.before.before.before).room)) in record { ready = y; n_bound = (c.count-n.ensures.2, (bits_here t (goal.at.append-packer-requires t c).After-count-n).inside) }
+    let y = ran_ready a.name.now a.out.now _ a.at n (a.sum + n) a.to r.result (bits_here t (goal.at.append-packer-requires t c).After-count-n) r.ensures r.auto.out (omega (arith, (inside t (goal.at.append-packer-requires t c).Start).room)) in record { ready = y; n_bound = (c.count-n.ensures.2, (bits_here t (goal.at.append-packer-requires t c).After-count-n).inside) }
 
 pub returns : goal.returns
 returns t c =

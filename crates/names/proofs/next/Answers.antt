@@ -46,23 +46,23 @@ word_here c =
 
 -- ---- and what it owes
 pub bounds-name-at : goal.bounds-name-at
-bounds-name-at c = omega (arith, inside c.before.before.before.before)
+bounds-name-at c = omega (arith, inside (goal.at.bounds-name-at c).Start)
 
 pub overflow_add-at : goal.overflow_add-at
-overflow_add-at c = omega (arith, inside c.before.before.before.before.before)
+overflow_add-at c = omega (arith, inside (goal.at.overflow_add-at c).Start)
 
 pub bounds-name-at-then-x-eq65 : goal.bounds-name-at-then-x-eq65
 bounds-name-at-then-x-eq65 c = omega (arith, (bits_there (goal.at.bounds-name-at-then-x-eq65 c).Then-x-eq65).inside)
 
 pub overflow_add-a : goal.overflow_add-a
-overflow_add-a c = omega (arith, inside c.before.before.before.before.before.before.before)
+overflow_add-a c = omega (arith, inside (goal.at.overflow_add-a c).Start)
 
 pub overflow_add-e-then-x-eq65 : goal.overflow_add-e-then-x-eq65
-overflow_add-e-then-x-eq65 c = omega (arith, inside c.before.before.before.before.before.before.before, c.count-n.ensures.2)
+overflow_add-e-then-x-eq65 c = omega (arith, inside (goal.at.overflow_add-e-then-x-eq65 c).Start, c.count-n.ensures.2)
 
 pub pack_run-r-requires : goal.pack_run-r-requires
 pack_run-r-requires c =
-    let w = inside c.before.before.before.before.before.before.before.before in
+    let w = inside (goal.at.pack_run-r-requires c).Start in
     let b = bits_here (goal.at.pack_run-r-requires c).After-count-n in record { begins = b.begins; sum_bound = (omega arith, omega (arith, b.inside), c.requires.to_le_at.1) }
 
 pub append-q-requires : goal.append-q-requires
@@ -72,7 +72,7 @@ append-q-requires c =
 pub flush-t-requires : goal.flush-t-requires
 flush-t-requires c =
     let q = c.append-q in
-    let bs = unpack c.count-n.result (drop (c.args.at + 2) (name c.before.before.before.before.before.before.before.before.before.before.before.before.before.before.before.before.before)) in
+    let bs = unpack c.count-n.result (drop (c.args.at + 2) (name (goal.at.flush-t-requires c).Start)) in
     ready_after _ _ c.pack_run-r.result.packer q.result bs 0 q.ensures q.auto.out
     (ready_less _ c.pack_run-r.result.packer (length bs + 0) c.count-n.result (omega (arith, (bits_here (goal.at.flush-t-requires c).After-count-n).size)) (ready (goal.at.flush-t-requires c).After-pack_run-r))
 
@@ -84,22 +84,22 @@ returns-then-x-eq65 c =
 
 pub copy-requires : goal.copy-requires
 copy-requires c =
-    let w = inside c.before.before.before.before.before.before.before in
+    let w = inside (goal.at.copy-requires c).Start in
     let b = word_here (goal.at.copy-requires c).After-wide-n in
     (b.inside, omega (arith, b.inside))
 
 pub overflow_add-result : goal.overflow_add-result
 overflow_add-result c =
-    let w = inside c.before.before.before.before.before.before.before.before.before.before in
+    let w = inside (goal.at.overflow_add-result c).Start in
     omega (arith, c.wide-n.ensures.1)
 
 pub overflow_add-result-2 : goal.overflow_add-result-2
 overflow_add-result-2 c =
-    let w = inside c.before.before.before.before.before.before.before.before.before.before in
+    let w = inside (goal.at.overflow_add-result-2 c).Start in
     omega (arith, c.wide-n.ensures.1)
 
 pub returns : goal.returns
 returns c =
     let a = c.args in
-    let w = inside c.before.before.before.before.before.before.before.before.before.before in
+    let w = inside (goal.at.returns c).Start in
     moved_ordinary a.name.now a.out.now _ a.at (c.wide-n.result + 1) a.to (word_here (goal.at.returns c).After-wide-n) w.low (omega arith) (omega arith) c.requires.to_le_at.1 c.copy.ensures

@@ -21,7 +21,7 @@ returns-then-t-name c =
     sym (number_malformed _ c.args.room (form_used c.args.name.now (λ h. c.if-t-name.true (ap (λ (r : Scanned). r.used) c.requires ∙ h))))
 
 pub returns-then-room-ne255 : goal.returns-then-room-ne255
-returns-then-room-ne255 c = sym (number_room _ c.args.room (formed c.before) c.if-room-ne255.true)
+returns-then-room-ne255 c = sym (number_room _ c.args.room (formed (goal.at.returns-then-room-ne255 c).Else-t-name) c.if-room-ne255.true)
 
 pub returns : goal.returns
-returns c = sym (number_done _ c.args.room (formed c.before) c.if-room-ne255.false)
+returns c = sym (number_done _ c.args.room (formed (goal.at.returns c).Else-t-name) c.if-room-ne255.false)

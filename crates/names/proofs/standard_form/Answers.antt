@@ -27,8 +27,8 @@ long c = c.clear.auto.out
 zeros : (c : After-number_of-number) → c.clear.new.out ≡ blank (room c)
 zeros c = c.clear.ensures
 
-number_is : (c : After-number_of-number) → c.number_of_lem.result ≡ standard_number (name c) (room c)
-number_is c = c.number_of_lem.ensures ∙ ap (standard_number (name c)) (long c)
+number_is : (c : After-number_of-number) → c.number_of-number.result ≡ standard_number (name c) (room c)
+number_is c = c.number_of-number.ensures ∙ ap (standard_number (name c)) (long c)
 
 -- where it is 0: the name is well formed, and the output has 255 octets
 done : (c : Else-number-ne0) → (well_formed (name record { before = c.before.before; type_inv = record { out = c.slice_known-2-1.given; name = c.shared_slice_known-1.given } }) ≡ true) × (room record { before = c.before.before; type_inv = record { out = c.slice_known-2-1.given; name = c.shared_slice_known-1.given } } ≡ 255)
@@ -36,7 +36,7 @@ done c = number_zero (name record { before = c.before.before; type_inv = record 
 
 pub returns-then-number-ne0 : goal.returns-then-number-ne0
 returns-then-number-ne0 c =
-    let k = c.number_of_lem.result in record { value = c.refused.ensures ∙ refused_answer k _ (number_is (goal.at.returns-then-number-ne0 c).After-number_of-number) c.if-number-ne0.true (length (standard_of (name (goal.at.returns-then-number-ne0 c).After-number_of-number))) 0; out_after = zeros (goal.at.returns-then-number-ne0 c).After-number_of-number ∙ refused_out k _ (number_is (goal.at.returns-then-number-ne0 c).After-number_of-number) c.if-number-ne0.true (standard_of (name (goal.at.returns-then-number-ne0 c).After-number_of-number)) (room (goal.at.returns-then-number-ne0 c).After-number_of-number) }
+    let k = c.number_of-number.result in record { value = c.refused.ensures ∙ refused_answer k _ (number_is (goal.at.returns-then-number-ne0 c).After-number_of-number) c.if-number-ne0.true (length (standard_of (name (goal.at.returns-then-number-ne0 c).After-number_of-number))) 0; out_after = zeros (goal.at.returns-then-number-ne0 c).After-number_of-number ∙ refused_out k _ (number_is (goal.at.returns-then-number-ne0 c).After-number_of-number) c.if-number-ne0.true (standard_of (name (goal.at.returns-then-number-ne0 c).After-number_of-number)) (room (goal.at.returns-then-number-ne0 c).After-number_of-number) }
 
 pub put_standard-n-requires : goal.put_standard-n-requires
 put_standard-n-requires c =

@@ -3,7 +3,6 @@ use mathlib.Core.Path.{◌≡◌, refl, ap, ◌∙◌, sym}
 use mathlib.Core.Bool.{Bool, ◌&&◌}
 use lib.ListN.{take, drop}
 use native.Mathlib.Omega.{arith}
-use borrow.Author.Tests.{not-true, not-false}
 use Rattle.octets.specs.Octets.{same}
 use Rattle.names.specs.Keys.{walked}
 use Rattle.names.proofs.SameKeyLaws.{walk_end, walk_other, walk_bits}
@@ -47,7 +46,7 @@ same_labels-requires t c = (omega (arith, c.past_letters-i.ensures.on), c.requir
 pub returns-then-not-same_labels : goal.returns-then-not-same_labels
 returns-then-not-same_labels t c =
     let r = c.same_labels in
-    sym (bits_walk t (goal.at.returns-then-not-same_labels t c).After-bit_octets-size ∙ ap (λ (v : Bool). v && part t (goal.at.returns-then-not-same_labels t c).After-bit_octets-size) (sym r.ensures ∙ not-true r.result c.if-not-same_labels.true))
+    sym (bits_walk t (goal.at.returns-then-not-same_labels t c).After-bit_octets-size ∙ ap (λ (v : Bool). v && part t (goal.at.returns-then-not-same_labels t c).After-bit_octets-size) (sym r.ensures ∙ c.if-not-same_labels.true))
 
 pub same_part-requires : goal.same_part-requires
 same_part-requires t c =
@@ -56,4 +55,4 @@ same_part-requires t c =
 pub returns : goal.returns
 returns t c =
     let r = c.same_labels in
-    c.same_part.ensures ∙ sym (bits_walk t (goal.at.returns t c).After-bit_octets-size ∙ ap (λ (v : Bool). v && part t (goal.at.returns t c).After-bit_octets-size) (sym r.ensures ∙ not-false r.result c.if-not-same_labels.false))
+    c.same_part.ensures ∙ sym (bits_walk t (goal.at.returns t c).After-bit_octets-size ∙ ap (λ (v : Bool). v && part t (goal.at.returns t c).After-bit_octets-size) (sym r.ensures ∙ c.if-not-same_labels.false))

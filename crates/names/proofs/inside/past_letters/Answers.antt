@@ -14,7 +14,7 @@ returns-then-x-b c =
 
 pub returns-then-x-eq65 : goal.returns-then-x-eq65
 returns-then-x-eq65 c =
-    let l = c.loop in
+    let l = c.loop-i in
     record { on = l.invariant.0; kept = l.invariant.1; bits = λ h e. c.if-x-eq65.true }
 
 pub loop-i-preserved : goal.loop-i-preserved

@@ -2,7 +2,6 @@ use Prim.Native.Nat.{ℕ, ◌+◌, ◌-◌}
 use mathlib.Core.Path.{◌≡◌, refl, ap, ◌∙◌, sym}
 use mathlib.Core.Bool.{Bool, false, ◌&&◌}
 use mathlib.Core.List.{map}
-use mathlib.Core.Logic.{⊎_elim}
 use lib.ListN.{drop, length-map}
 use native.Mathlib.Omega.{arith}
 use Rattle.octets.specs.Octets.{same}
@@ -10,7 +9,7 @@ use Rattle.octets.proofs.SameLaws.{same_on, same_off, same_end}
 use Rattle.octets.proofs.BoolLaws.{and_true, and_false}
 use Rattle.names.specs.Standard.{lower}
 use Rattle.names.proofs.SameKeyLaws.{lowered_at}
-use Rattle.names.proofs.inside.same_lowered.Goals.{After-lowered-in-loop-i}
+use Rattle.names.proofs.inside.same_lowered.Goals.{After-lowered-in-loop-i, then-lowered, else-lowered}
 use Rattle.names.proofs.inside.same_lowered.Goals as goal
 
 -- what is left of both in lower case
@@ -44,10 +43,10 @@ loop-i-preserved c =
       omega arith,
       refl,
       omega arith,
-      ⊎_elim
-          (λ w. ap (λ (v : Bool). v && left (goal.at.loop-i-preserved c).After-lowered-in-loop-i (l.i + 1)) w.1 ∙ sym (and_false l.alike) ∙ ap (λ (v : Bool). l.alike && v) (sym (off (goal.at.loop-i-preserved c).After-lowered-in-loop-i w.0.taken)) ∙ l.invariant.3)
-          (λ w. ap (λ (v : Bool). v && left (goal.at.loop-i-preserved c).After-lowered-in-loop-i (l.i + 1)) w.1 ∙ ap (λ (v : Bool). l.alike && v) (sym (on (goal.at.loop-i-preserved c).After-lowered-in-loop-i w.0.left)) ∙ l.invariant.3)
-          c.if-lowered.branch,
+      elim c.if-lowered.branch [
+        | then-lowered w ↦ ap (λ (v : Bool). v && left (goal.at.loop-i-preserved c).After-lowered-in-loop-i (l.i + 1)) w.alike-is ∙ sym (and_false l.alike) ∙ ap (λ (v : Bool). l.alike && v) (sym (off (goal.at.loop-i-preserved c).After-lowered-in-loop-i w.if-lowered.true)) ∙ l.invariant.3
+        | else-lowered w ↦ ap (λ (v : Bool). v && left (goal.at.loop-i-preserved c).After-lowered-in-loop-i (l.i + 1)) w.alike-is ∙ ap (λ (v : Bool). l.alike && v) (sym (on (goal.at.loop-i-preserved c).After-lowered-in-loop-i w.if-lowered.false)) ∙ l.invariant.3
+      ],
     )
 
 pub returns : goal.returns
