@@ -65,46 +65,46 @@ answer_ttl c = c.ttl_good.ensures
 
 -- past a test, the later fields are left
 past_type : (c : Else-not-type_good) → fault_of (row_type record { before = c.before.before; type_inv = record { row = c.shared_slice_known-1.given } }) ≡ left_from (row_type record { before = c.before.before; type_inv = record { row = c.shared_slice_known-1.given } }) 1
-past_type c = fault_from (row_type record { before = c.before.before; type_inv = record { row = c.shared_slice_known-1.given } }) ∙ field_passes (row_type record { before = c.before.before; type_inv = record { row = c.shared_slice_known-1.given } }) 0 (omega arith) (answer_type record { before = c.before.before; type_inv = record { row = c.shared_slice_known-1.given } }) c.if-not-type_good.false
+past_type c = fault_from (row_type record { before = c.before.before; type_inv = record { row = c.shared_slice_known-1.given } }) ∙ field_passes (row_type record { before = c.before.before; type_inv = record { row = c.shared_slice_known-1.given } }) 0 (omega arith) (answer_type record { before = c.before.before; type_inv = record { row = c.shared_slice_known-1.given } }) (ap not c.if-not-type_good.false)
 
 past_prefix : (c : Else-not-prefix_good) → fault_of (row_prefix record { before = c.before.before; type_inv = record { row = c.shared_slice_known-1.given } }) ≡ left_from (row_prefix record { before = c.before.before; type_inv = record { row = c.shared_slice_known-1.given } }) 2
-past_prefix c = past_type record { before = c.before.before.before; type_inv = record { row = c.shared_slice_known-1.given } } ∙ field_passes (row_prefix record { before = c.before.before; type_inv = record { row = c.shared_slice_known-1.given } }) 1 (omega arith) (answer_prefix record { before = c.before.before; type_inv = record { row = c.shared_slice_known-1.given } }) c.if-not-prefix_good.false
+past_prefix c = past_type record { before = c.before.before.before; type_inv = record { row = c.shared_slice_known-1.given } } ∙ field_passes (row_prefix record { before = c.before.before; type_inv = record { row = c.shared_slice_known-1.given } }) 1 (omega arith) (answer_prefix record { before = c.before.before; type_inv = record { row = c.shared_slice_known-1.given } }) (ap not c.if-not-prefix_good.false)
 
 past_zero : (c : Else-zero_of-ne0) → fault_of (row_zero record { before = c.before.before; type_inv = record { row = c.shared_slice_known-1.given } }) ≡ left_from (row_zero record { before = c.before.before; type_inv = record { row = c.shared_slice_known-1.given } }) 3
 past_zero c = past_prefix record { before = c.before.before.before; type_inv = record { row = c.shared_slice_known-1.given } } ∙ field_passes (row_zero record { before = c.before.before; type_inv = record { row = c.shared_slice_known-1.given } }) 2 (omega arith) (answer_zero record { before = c.before.before; type_inv = record { row = c.shared_slice_known-1.given } }) (ap not (eq-eqb c.zero_of.result 0 c.if-zero_of-ne0.false))
 
 past_address : (c : Else-not-address_good) → fault_of (row_address record { before = c.before.before; type_inv = record { row = c.shared_slice_known-1.given } }) ≡ left_from (row_address record { before = c.before.before; type_inv = record { row = c.shared_slice_known-1.given } }) 4
-past_address c = past_zero record { before = c.before.before.before; type_inv = record { row = c.shared_slice_known-1.given } } ∙ field_passes (row_address record { before = c.before.before; type_inv = record { row = c.shared_slice_known-1.given } }) 3 (omega arith) (answer_address record { before = c.before.before; type_inv = record { row = c.shared_slice_known-1.given } }) c.if-not-address_good.false
+past_address c = past_zero record { before = c.before.before.before; type_inv = record { row = c.shared_slice_known-1.given } } ∙ field_passes (row_address record { before = c.before.before; type_inv = record { row = c.shared_slice_known-1.given } }) 3 (omega arith) (answer_address record { before = c.before.before; type_inv = record { row = c.shared_slice_known-1.given } }) (ap not c.if-not-address_good.false)
 
 past_owner : (c : Else-not-slot_good) → fault_of (row_owner record { before = c.before.before; type_inv = record { row = c.shared_slice_known-1.given } }) ≡ left_from (row_owner record { before = c.before.before; type_inv = record { row = c.shared_slice_known-1.given } }) 5
-past_owner c = past_address record { before = c.before.before.before.before; type_inv = record { row = c.shared_slice_known-1.given } } ∙ field_passes (row_owner record { before = c.before.before; type_inv = record { row = c.shared_slice_known-1.given } }) 4 (omega arith) (answer_owner record { before = c.before.before; type_inv = record { row = c.shared_slice_known-1.given } }) c.if-not-slot_good.false
+past_owner c = past_address record { before = c.before.before.before.before; type_inv = record { row = c.shared_slice_known-1.given } } ∙ field_passes (row_owner record { before = c.before.before; type_inv = record { row = c.shared_slice_known-1.given } }) 4 (omega arith) (answer_owner record { before = c.before.before; type_inv = record { row = c.shared_slice_known-1.given } }) (ap not c.if-not-slot_good.false)
 
 past_target : (c : Else-not-target_good) → fault_of (row_target record { before = c.before.before; type_inv = record { row = c.shared_slice_known-1.given } }) ≡ left_from (row_target record { before = c.before.before; type_inv = record { row = c.shared_slice_known-1.given } }) 6
-past_target c = past_owner record { before = c.before.before.before; type_inv = record { row = c.shared_slice_known-1.given } } ∙ field_passes (row_target record { before = c.before.before; type_inv = record { row = c.shared_slice_known-1.given } }) 5 (omega arith) (answer_target record { before = c.before.before; type_inv = record { row = c.shared_slice_known-1.given } }) c.if-not-target_good.false
+past_target c = past_owner record { before = c.before.before.before; type_inv = record { row = c.shared_slice_known-1.given } } ∙ field_passes (row_target record { before = c.before.before; type_inv = record { row = c.shared_slice_known-1.given } }) 5 (omega arith) (answer_target record { before = c.before.before; type_inv = record { row = c.shared_slice_known-1.given } }) (ap not c.if-not-target_good.false)
 
 past_ttl : (c : Else-not-ttl_good) → fault_of (row_ttl record { before = c.before.before; type_inv = record { row = c.shared_slice_known-1.given } }) ≡ left_from (row_ttl record { before = c.before.before; type_inv = record { row = c.shared_slice_known-1.given } }) 7
-past_ttl c = past_target record { before = c.before.before.before; type_inv = record { row = c.shared_slice_known-1.given } } ∙ field_passes (row_ttl record { before = c.before.before; type_inv = record { row = c.shared_slice_known-1.given } }) 6 (omega arith) (answer_ttl record { before = c.before.before; type_inv = record { row = c.shared_slice_known-1.given } }) c.if-not-ttl_good.false
+past_ttl c = past_target record { before = c.before.before.before; type_inv = record { row = c.shared_slice_known-1.given } } ∙ field_passes (row_ttl record { before = c.before.before; type_inv = record { row = c.shared_slice_known-1.given } }) 6 (omega arith) (answer_ttl record { before = c.before.before; type_inv = record { row = c.shared_slice_known-1.given } }) (ap not c.if-not-ttl_good.false)
 
 pub returns-then-not-type_good : goal.returns-then-not-type_good
-returns-then-not-type_good c = sym (fault_from (row_type (goal.at.returns-then-not-type_good c).After-type_good) ∙ field_fails (row_type (goal.at.returns-then-not-type_good c).After-type_good) 0 (omega arith) (answer_type (goal.at.returns-then-not-type_good c).After-type_good) c.if-not-type_good.true)
+returns-then-not-type_good c = sym (fault_from (row_type (goal.at.returns-then-not-type_good c).After-type_good) ∙ field_fails (row_type (goal.at.returns-then-not-type_good c).After-type_good) 0 (omega arith) (answer_type (goal.at.returns-then-not-type_good c).After-type_good) (ap not c.if-not-type_good.true))
 
 pub returns-then-not-prefix_good : goal.returns-then-not-prefix_good
-returns-then-not-prefix_good c = sym (past_type (goal.at.returns-then-not-prefix_good c).Else-not-type_good ∙ field_fails (row_prefix (goal.at.returns-then-not-prefix_good c).After-prefix_good) 1 (omega arith) (answer_prefix (goal.at.returns-then-not-prefix_good c).After-prefix_good) c.if-not-prefix_good.true)
+returns-then-not-prefix_good c = sym (past_type (goal.at.returns-then-not-prefix_good c).Else-not-type_good ∙ field_fails (row_prefix (goal.at.returns-then-not-prefix_good c).After-prefix_good) 1 (omega arith) (answer_prefix (goal.at.returns-then-not-prefix_good c).After-prefix_good) (ap not c.if-not-prefix_good.true))
 
 pub returns-then-zero_of-ne0 : goal.returns-then-zero_of-ne0
 returns-then-zero_of-ne0 c = sym (past_prefix (goal.at.returns-then-zero_of-ne0 c).Else-not-prefix_good ∙ field_fails (row_zero (goal.at.returns-then-zero_of-ne0 c).After-zero_of) 2 (omega arith) (answer_zero (goal.at.returns-then-zero_of-ne0 c).After-zero_of) (ap not (ne_eqb c.zero_of.result 0 c.if-zero_of-ne0.true)))
 
 pub returns-then-not-address_good : goal.returns-then-not-address_good
-returns-then-not-address_good c = sym (past_zero (goal.at.returns-then-not-address_good c).Else-zero_of-ne0 ∙ field_fails (row_address (goal.at.returns-then-not-address_good c).After-address_good) 3 (omega arith) (answer_address (goal.at.returns-then-not-address_good c).After-address_good) c.if-not-address_good.true)
+returns-then-not-address_good c = sym (past_zero (goal.at.returns-then-not-address_good c).Else-zero_of-ne0 ∙ field_fails (row_address (goal.at.returns-then-not-address_good c).After-address_good) 3 (omega arith) (answer_address (goal.at.returns-then-not-address_good c).After-address_good) (ap not c.if-not-address_good.true))
 
 pub returns-then-not-slot_good : goal.returns-then-not-slot_good
-returns-then-not-slot_good c = sym (past_address (goal.at.returns-then-not-slot_good c).Else-not-address_good ∙ field_fails (row_owner (goal.at.returns-then-not-slot_good c).After-slot_good) 4 (omega arith) (answer_owner (goal.at.returns-then-not-slot_good c).After-slot_good) c.if-not-slot_good.true)
+returns-then-not-slot_good c = sym (past_address (goal.at.returns-then-not-slot_good c).Else-not-address_good ∙ field_fails (row_owner (goal.at.returns-then-not-slot_good c).After-slot_good) 4 (omega arith) (answer_owner (goal.at.returns-then-not-slot_good c).After-slot_good) (ap not c.if-not-slot_good.true))
 
 pub returns-then-not-target_good : goal.returns-then-not-target_good
-returns-then-not-target_good c = sym (past_owner (goal.at.returns-then-not-target_good c).Else-not-slot_good ∙ field_fails (row_target (goal.at.returns-then-not-target_good c).After-target_good) 5 (omega arith) (answer_target (goal.at.returns-then-not-target_good c).After-target_good) c.if-not-target_good.true)
+returns-then-not-target_good c = sym (past_owner (goal.at.returns-then-not-target_good c).Else-not-slot_good ∙ field_fails (row_target (goal.at.returns-then-not-target_good c).After-target_good) 5 (omega arith) (answer_target (goal.at.returns-then-not-target_good c).After-target_good) (ap not c.if-not-target_good.true))
 
 pub returns-then-not-ttl_good : goal.returns-then-not-ttl_good
-returns-then-not-ttl_good c = sym (past_target (goal.at.returns-then-not-ttl_good c).Else-not-target_good ∙ field_fails (row_ttl (goal.at.returns-then-not-ttl_good c).After-ttl_good) 6 (omega arith) (answer_ttl (goal.at.returns-then-not-ttl_good c).After-ttl_good) c.if-not-ttl_good.true)
+returns-then-not-ttl_good c = sym (past_target (goal.at.returns-then-not-ttl_good c).Else-not-target_good ∙ field_fails (row_ttl (goal.at.returns-then-not-ttl_good c).After-ttl_good) 6 (omega arith) (answer_ttl (goal.at.returns-then-not-ttl_good c).After-ttl_good) (ap not c.if-not-ttl_good.true))
 
 pub returns : goal.returns
 returns c = sym (past_ttl c ∙ first_end (λ i. not (field_good (row_ttl (goal.at.returns c).After-ttl_good) i)) field_count field_count (omega arith))

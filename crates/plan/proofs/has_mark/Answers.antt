@@ -3,10 +3,10 @@ use mathlib.Core.Path.{refl, ap, ◌∙◌, sym}
 use Prim.Native.Nat.{◌+◌, ◌-◌}
 use mathlib.Core.Bool.{Bool, ◌||◌}
 use lib.ListN.{drop}
-use mathlib.Core.Logic.{⊎_elim}
 use Rattle.octets.proofs.BoolLaws.{or_true, or_false}
 use Rattle.octets.specs.Octets.{among}
 use Rattle.octets.proofs.AmongLaws.{among_on, among_here, among_end}
+use Rattle.plan.proofs.has_mark.Goals.{then-marks-i, else-marks-i}
 use Rattle.plan.proofs.has_mark.Goals as goal
 
 pub loop-i-init : goal.loop-i-init
@@ -22,10 +22,10 @@ loop-i-preserved c =
     let l = c.loop-i in (
       omega arith,
       refl,
-      ⊎_elim
-          (λ w. ap (λ (v : Bool). v || among m (drop (l.i + 1) s)) w.1 ∙ sym (or_true l.met) ∙ ap (λ (v : Bool). l.met || v) (sym (among_here m s l.i (omega arith) w.0.taken)) ∙ l.invariant.2)
-          (λ w. ap (λ (v : Bool). v || among m (drop (l.i + 1) s)) w.1 ∙ ap (λ (v : Bool). l.met || v) (sym (among_on m s l.i (omega arith) w.0.left)) ∙ l.invariant.2)
-          c.if-marks-i.branch,
+      elim c.if-marks-i.branch [
+        | then-marks-i w ↦ ap (λ (v : Bool). v || among m (drop (l.i + 1) s)) w.met-is ∙ sym (or_true l.met) ∙ ap (λ (v : Bool). l.met || v) (sym (among_here m s l.i (omega arith) w.if-marks-i.true)) ∙ l.invariant.2
+        | else-marks-i w ↦ ap (λ (v : Bool). v || among m (drop (l.i + 1) s)) w.met-is ∙ ap (λ (v : Bool). l.met || v) (sym (among_on m s l.i (omega arith) w.if-marks-i.false)) ∙ l.invariant.2
+      ],
     )
 
 pub returns : goal.returns

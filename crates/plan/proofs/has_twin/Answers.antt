@@ -15,7 +15,7 @@ loop-i-init c =
     (omega arith, ap (λ (k : ℕ). first_from (twin t j) 0 k) (sub-zero j))
 
 pub is_twin-requires : goal.is_twin-requires
-is_twin-requires c =record { ready = c.requires.ready; i_lt_j = (omega arith, c.requires.j_value) }
+is_twin-requires c = record { ready = c.requires.ready; i_lt_j = (omega arith, c.requires.j_value) }
 
 pub returns-then-is_twin : goal.returns-then-is_twin
 returns-then-is_twin c =

@@ -16,6 +16,9 @@ fits c =
 pub overflow_add-e : goal.overflow_add-e
 overflow_add-e c = omega (arith, fits c)
 
+pub slice_bounds-result-end : goal.slice_bounds-result-end
+slice_bounds-result-end c = omega (arith, fits c)
+
 pub returns : goal.returns
 returns c =
     let t = c.args.table.now in

@@ -14,6 +14,6 @@ returns c =
     let held = c.hold-held.ensures in
     let l = entry_held a.table.now a.name.now (λ i. omega (arith, c.shared_slice_known-2-1.given i)) in (
       c.named-number.ensures ∙ (λ i. or_else (checked i).answer.number (earns (eqb (held i).length 0) 4 0)) ∙ l,
-      ap (λ (r : Reply). r.fault-1) checked,
+      ap (λ (r : Reply). r.fault) checked,
       held,
     )

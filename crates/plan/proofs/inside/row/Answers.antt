@@ -15,6 +15,10 @@ pub overflow_add-e : goal.overflow_add-e
 unfolding count_of
 overflow_add-e c = omega arith
 
+pub slice_bounds-result-end : goal.slice_bounds-result-end
+unfolding count_of
+slice_bounds-result-end c = omega arith
+
 pub returns : goal.returns
 unfolding record_at
 returns c =

@@ -1,11 +1,7 @@
 -- `plan::inside::target` meets its contract.
 use mathlib.Core.Path.{ap, ◌∙◌}
 use Rattle.plan.specs.Layout.{name_in, target_slot}
-use Rattle.plan.proofs.inside.target.Goals.{PLACE-close, PLACE-spec}
 use Rattle.plan.proofs.inside.target.Goals as goal
 
 pub returns : goal.returns
 returns c = c.name_in.ensures ∙ ap name_in (c.target_slot.ensures.0 ∙ ap target_slot c.row.ensures.0)
-
-pub target_spec : {M : Type 1} → statement M
-target_spec = PLACE-close (PLACE-spec row_requires target_slot_requires name_in_requires returns)

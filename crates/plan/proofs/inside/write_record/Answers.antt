@@ -18,7 +18,7 @@ room : (s : Start) → s.args.to + ttl_place < 2 ^ 64
 room s = search rules
 
 pub overflow_add-to-4 : goal.overflow_add-to-4
-overflow_add-to-4 c = record { fits = room (begun (first (second (c)))) }
+overflow_add-to-4 c = record { fits = room (goal.at.overflow_add-to-4 c).Start }
 
 pub returns : goal.returns
 returns c =
@@ -26,4 +26,4 @@ returns c =
     let w = c.requires in
     record_written a.out.now _ _ _ _ _ a.address a.owner.now a.target.now a.kind a.prefix a.ttl a.to (sixteen (goal.at.returns c).Start) w.0 w.1 w.2
     c.copy.ensures c.copy-2.ensures c.copy-3.ensures c.copy-4.ensures
-    (c.copy-5.ensures ∙ ap (λ (v : List ℕ). paste c.copy-4.last.1.1.1.0 (a.to + ttl_place) v ttl_size) c.quarter_octets-life.ensures)
+    (c.copy-5.ensures ∙ ap (λ (v : List ℕ). paste c.copy-4.new.out (a.to + ttl_place) v ttl_size) c.quarter_octets-life.ensures)

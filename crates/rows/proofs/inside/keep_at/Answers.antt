@@ -4,13 +4,13 @@ use Rattle.address.specs.Order.{order_of}
 use Rattle.rows.specs.Halves.{address_of}
 use Rattle.rows.specs.Rows.{row, kept, is_same}
 use Rattle.rows.proofs.RowsLaws.{keep_found, kept_new, kept_over}
-use Rattle.rows.proofs.inside.keep_at.Goals.{Joined-k-count}
+use Rattle.rows.proofs.inside.keep_at.Goals.{Joined-k-count, then-k-count+else-is_at, else-k-count}
 use Rattle.rows.proofs.inside.keep_at.Goals as goal
 
 -- past the test, the address stands not at the row
 absent : (c : Joined-k-count)
     → let a = c.args in a.k < get_or a.figures.now 0 0 → is_same (order_of (row a.out.now a.k) (address_of a.high a.low)) ≡ false
-absent c = ⊎_elim (λ w l. sym w.2.ensures ∙ w.3.left) (λ w l. absurd (omega (arith, w.left))) c.if-k-count.branch
+absent c l = elim c.if-k-count.branch [ then-k-count+else-is_at w ↦ sym w.is_at.ensures ∙ w.if-is_at.false | else-k-count w ↦ absurd (omega (arith, w.if-k-count.false)) ]
 
 pub returns-then-is_at : goal.returns-then-is_at
 returns-then-is_at c =

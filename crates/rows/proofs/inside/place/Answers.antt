@@ -12,13 +12,13 @@ pub loop-from-preserved-in-Before : goal.loop-from-preserved-in-Before
 loop-from-preserved-in-Before c =
     let a = c.args in
     let l = c.loop-from in
-    (omega arith, l.invariant.1, seeking_right a.out.now (address_of a.high a.low) _ l.from l.to c.loop-from-test.true l.invariant.2 (sym c.stands-order.ensures ∙ c.enum_told-1.given.1))
+    (omega arith, l.invariant.1, seeking_right a.out.now (address_of a.high a.low) _ l.from l.to c.loop-from-test.true l.invariant.2 (sym c.in-Before.ensures))
 
 pub loop-from-preserved : goal.loop-from-preserved
 loop-from-preserved c =
     let a = c.args in
     let l = c.loop-from in
-    (omega arith, omega arith, seeking_left a.out.now (address_of a.high a.low) _ l.from l.to c.loop-from-test.true l.invariant.2 (λ e. not_before c.stands-order.result c.in_default.keys2 (c.stands-order.ensures ∙ e)))
+    (omega arith, omega arith, seeking_left a.out.now (address_of a.high a.low) _ l.from l.to c.loop-from-test.true l.invariant.2 (λ e. c.in_default.not-Before (c.stands-order.ensures ∙ e)))
 
 pub returns : goal.returns
 returns c =
