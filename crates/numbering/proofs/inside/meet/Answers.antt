@@ -7,11 +7,8 @@ use Rattle.plan.specs.Layout.{name_in}
 use Rattle.numbering.specs.Numbers.{number_in}
 use Rattle.numbering.specs.Buckets.{buckets, slot_at, name_at, held, bucket_of}
 use Rattle.numbering.proofs.ListingLaws.{bucket_small, meets_known, meets_new, number_new_is}
-use Rattle.numbering.proofs.inside.meet.Goals.{After-bucket_of-bucket, After-find-number, PLACE-After-find-arg3}
+use Rattle.numbering.proofs.inside.meet.Goals.{After-bucket_of-bucket, After-find-number}
 use Rattle.numbering.proofs.inside.meet.Goals as goal
-
-abbrev bucket : PLACE-After-find-arg3 → After-bucket_of-bucket
-bucket c = c.before.before.before
 
 -- the bucket of the slot at the place
 bucket_is : (c : After-bucket_of-bucket) → let a = c.args in c.bucket_of-bucket.result ≡ bucket_of (slot_at a.table.now a.place)
@@ -32,9 +29,9 @@ bucket_of-bucket-requires c = c.slot_at-slot.ensures.1
 
 pub find-number-requires : goal.find-number-requires
 find-number-requires c =
-    let w = (begun (bucket c)).requires in
-    let s = (bucket c).before.slot_at-slot.ensures in
-    (w.0, s.1, rw s.0 w.1.holds, (bucket c).bucket_of-bucket.ensures)
+    let w = c.requires in
+    let s = c.slot_at-slot.ensures in
+    (w.0, s.1, rw s.0 w.1.holds, c.bucket_of-bucket.ensures)
 
 pub returns-then-number-count : goal.returns-then-number-count
 returns-then-number-count c =

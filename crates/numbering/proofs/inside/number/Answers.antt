@@ -29,11 +29,11 @@ slot_of-slot-requires c = short c
 pub find-requires : goal.find-requires
 find-requires c =
     let e = c.slot_of-slot.ensures in
-    (c.number_all.ensures.0.kept, slot_length (goal.at.find-requires c).After-slot_of-slot, rw e (holds_made c.args.name.now c.requires.in_order.1), c.bucket_of.ensures)
+    (c.number_all-count.ensures.names.kept, slot_length (goal.at.find-requires c).After-slot_of-slot, rw e (holds_made c.args.name.now c.requires.in_order.1), c.bucket_of.ensures)
 
 pub returns : goal.returns
 returns c =
     let a = c.args in
-    let n = c.number_all.ensures in
+    let n = c.number_all-count.ensures in
     let e = ap name_in c.slot_of-slot.ensures ∙ name_made a.name.now in
-    (c.find.ensures ∙ (λ i. number_in (n.0.all i) (e i)), n.1)
+    record { name = c.find.ensures ∙ (λ i. number_in (n.names.all i) (e i)); owners = n.owners; targets = n.targets }
