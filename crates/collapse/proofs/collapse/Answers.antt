@@ -50,7 +50,7 @@ pub slice_bounds-standard-end : goal.slice_bounds-standard-end
 slice_bounds-standard-end c = (held (goal.at.slice_bounds-standard-end c).After-wide-n).fits
 
 pub slice_bounds-fold-end : goal.slice_bounds-fold-end
-slice_bounds-fold-end c = sym (length-take-le c.wide-n.result (entry (goal.at.slice_bounds-fold-end c).After-wide-n).name.octets (held (goal.at.slice_bounds-fold-end c).After-wide-n).ranges)
+slice_bounds-fold-end c = sym (length-take-le c.wide-n.result (entry (goal.at.slice_bounds-fold-end c).After-wide-n).name.octets (held (goal.at.slice_bounds-fold-end c).After-wide-n).fits)
 
 pub fold-requires : goal.fold-requires
 fold-requires c =

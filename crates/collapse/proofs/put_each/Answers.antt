@@ -78,7 +78,7 @@ loop-j-init c =
       c.count-count.ensures,
       bucket_is (goal.at.loop-j-init c).After-bucket-b,
       k.within,
-      k.bucket-b,
+      k.bucket,
       count_start (made (goal.at.loop-j-init c).Start) a.n ∙ sym (ap (λ (l : List (List ℕ)). a.n + length l) k.same),
       stored_start (made (goal.at.loop-j-init c).Start) a.out.now a.n ∙ sym (ap (stored a.out.now a.n) k.same),
       refl,
@@ -95,7 +95,7 @@ pub offset_bounds-next-j : goal.offset_bounds-next-j
 offset_bounds-next-j c = omega (arith, c.loop-j.invariant.2)
 
 pub bounds-next-j : goal.bounds-next-j
-bounds-next-j c = omega (arith, within c, few (goal.at.bounds-next-j c).Start, c.requires.4.records)
+bounds-next-j c = omega (arith, c.loop-j.invariant.0, few (goal.at.bounds-next-j c).Start, c.requires.4.records)
 
 pub overflow_cast-j-in-loop-j : goal.overflow_cast-j-in-loop-j
 overflow_cast-j-in-loop-j c = omega (arith, (step c).within)
@@ -116,7 +116,7 @@ loop-j-preserved c =
       l.invariant.0,
       l.invariant.1,
       k.within,
-      k.bucket-b,
+      k.bucket,
       p.ensures.value ∙ count_turn f a.n l.m l.j m ∙ sym (ap (λ (v : List (List ℕ)). a.n + length v) k.same),
       p.ensures.out_after ∙ stored_turn f a.out.now l.out a.n l.m l.j u m ∙ sym (ap (stored a.out.now a.n) k.same),
       omega (arith, l.invariant.6),
