@@ -1,5 +1,5 @@
 -- Demand 1: each public function asks nothing of its caller and promises just what its definition says, for every input; what refuses leaves its
--- output and its figures zero, but index and field after 2 and 3 (T-04). In a contract κs are the lifetimes of a call, `now x` is what the reference x
+-- output and its figures zero, but index and field after 2 and 3 (T-04). In a contract κs are the lifetimes of a call, `x.now` is what the reference x
 -- shows, and `end` and `figured` are the lent output and figures as the call leaves them.
 use Prim.Native.Nat.{ℕ, zero, suc, ◌+◌, ◌≤◌, ◌<◌, min}
 use mathlib.Core.Path.{◌≡◌, refl, ◌∙◌, sym}

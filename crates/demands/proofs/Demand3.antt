@@ -5,6 +5,7 @@ use mathlib.Core.List.{List}
 use lib.ListN.{length}
 use contract.Lifetimes.{Lfts}
 use denote.Ref.{Bor}
+use denote.MutBor.{MutBor}
 use Rattle.plan.specs.declared.Reply.{Reply}
 use Rattle.collapse.specs.Demand3.{gives, Demand3}
 use Rattle.collapse.proofs.collapse.Reads as collapse
@@ -16,8 +17,8 @@ pub kept : Demand3
 kept = demand3
 
 -- what a caller of the running `collapse` learns of its answer and its output is what the demand says that a call gives
-pub running : (κs : Lfts 3) (table name out end : Bor (List ℕ)) (r : Reply)
+pub running : (κs : Lfts 3) (table name : Bor (List ℕ)) (out end : MutBor (List ℕ)) (r : Reply)
     → collapse.Learnt κs (table, (name, (out, tt))) r (table, (name, (end, tt)))
-    → (r.answer, now end) ≡ gives (now table) (record { name = now name; size = length (now out) })
+    → (r.answer, end.now) ≡ gives table.now (record { name = name.now; size = length out.now })
 unfolding gives
 running κs table name out end r h = learnt κs table name out end r h

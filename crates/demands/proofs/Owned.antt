@@ -67,7 +67,7 @@ module _ (w : World) where
   token κ q = w.𝓛.A.lft κ q
 
   abbrev slice : Lft → Bor (List ℕ) → List Val → Pr w
-  slice κ x vs = sem w.𝓛 ((Slice erased κ octet).own x vs)
+  slice κ x vs = sem w.𝓛 ((Slice erased κ octet).own_val x vs)
 
   -- where a memory satisfies both, the loan is opened, and each place of the slice holds a value of u8
   slice_known : (κ : Lft) (q : Share) (x : Bor (List ℕ)) (vs : List Val) (σ : Memory) → Satisfies w.𝓤 w.𝓛.H w.𝓜 σ (token κ q ∗ slice κ x vs) → ∥ AllWt (f_int w8) x.now ∥₁
@@ -75,10 +75,10 @@ module _ (w : World) where
       let owned : Pr w = sem w.𝓛 ((ShrSlice erased κ octet).own_val x) in
       let all : Type 0 = AllWt (f_int w8) x.now in
       let opened : Pr w = guard w.𝓤 all (owned ∗ token κ q) in
-      let enters : slice κ x vs ⊢ owned = via w.𝓤 _ ((shr_laws w.𝓛 1 octet 0 tt).own_in (κ, tt) x vs) (guard→ w.𝓤 _ owned) in
+      let enters : slice κ x vs ⊢ owned = via w.𝓤 _ ((shr_laws w.𝓛 1 octet erased 0 tt).own_in (κ, tt) x vs) (guard→ w.𝓤 _ owned) in
       let opens : token κ q ∗ slice κ x vs ⊢ w.𝓛.H.⇛ opened =
       via w.𝓤 (slice κ x vs ∗ token κ q) (comm∗ w.𝓤 (token κ q) (slice κ x vs))
-      (via w.𝓤 (owned ∗ token κ q) (mono_l w.𝓤 (token κ q) enters) (shs_known w.𝓛 (f_int w8) κ q x.ref_ptr.0 x.ref_ptr.1 x.ghost_name x.now)) in
+      (via w.𝓤 (owned ∗ token κ q) (mono_l w.𝓤 (token κ q) enters) (shs_known w.𝓛 (f_int w8) κ q x.ref_ptr.0 x.ref_ptr.1 x.now)) in
       sat_fact w.𝓤 w.𝓛.H w.𝓜 σ opened all (via w.𝓤 opened (snd∗ w.𝓤 (w.𝓜.mem σ) opened) (guard→fact w.𝓤 all (owned ∗ token κ q)))
       (sat_upd w.𝓤 w.𝓛.H w.𝓜 σ σ (token κ q ∗ slice κ x vs) opened (via w.𝓤 (w.𝓜.mem σ ∗ w.𝓛.H.⇛ opened) (mono_r w.𝓤 (w.𝓜.mem σ) opens) (w.𝓜.⇛_run σ opened)) s)
 
