@@ -28,6 +28,10 @@ bits t c = address_of c.args.high c.args.low
 abbrev asked : (t : ℕ) → search-Start t → Sought
 asked t c = sought (table t c) c.args.x c.args.bound (bits t c) c.args.ttl (lent t c)
 
+-- where the links are as they were, they lead where they led
+led : (next next' : List ℕ) (i k : ℕ) → k ≡ get_or next' i 0 → next' ≡ next → k ≡ get_or next i 0
+led next next' i k r e = r ∙ ap (λ (v : List ℕ). get_or v i 0) e
+
 pub search-loop-i-init : goal.search-loop-i-init
 search-loop-i-init t c =
     let p = c.requires.x_lt_max_names in
@@ -54,7 +58,7 @@ search-loop-i-smaller t c =
       | search-then-length_in-bound w ↦ w.next-is ∙ w.step-s.ensures.next
       | search-else-length_in-bound w ↦ w.next-is
     ] in
-    let r : c.wide-i.result ≡ get_or l.next l.i 0 = c.wide-i.ensures ∙ ap (λ (v : List ℕ). get_or v l.i 0) e in
+    let r : c.wide-i.result ≡ get_or l.next l.i 0 = led _ _ _ _ c.wide-i.ensures e in
     omega (arith, further q c.requires.fit l.invariant c.loop-i-test.true, r, c.loop-i-test.true)
 
 pub search-loop-i-preserved : goal.search-loop-i-preserved
@@ -75,7 +79,7 @@ search-loop-i-preserved t c =
       | search-else-length_in-bound w ↦
           subst (λ (m : Memory). Going q m c.wide-i.result) (sym (memory_eq w.next-is w.prev-is w.out-is w.lives-is w.figures-is w.s-is))
           (going_skip q c.requires.fit l.invariant c.loop-i-test.true c.wide-i.result (omega (arith, n, w.if-length_in-bound.false))
-          (c.wide-i.ensures ∙ ap (λ (v : List ℕ). get_or v l.i 0) w.next-is))
+          (led _ _ _ _ c.wide-i.ensures w.next-is))
     ]
 
 pub search-returns : goal.search-returns

@@ -1,3 +1,4 @@
+-- `search::links::link` meets its contract: each record goes to the end of its owner's list.
 use Prim.Native.Nat.{ℕ, ◌+◌, ◌-◌, ◌<◌}
 use mathlib.Core.List.{List}
 use mathlib.Core.Path.{◌≡◌, refl, ap, subst, ◌∙◌}
@@ -6,47 +7,39 @@ use lib.ListN.{length, get_or}
 use Rattle.search.specs.Links.{Linked, max_nodes}
 use Rattle.search.specs.Search.{max_records}
 use Rattle.search.proofs.BuildLaws.{chained_none, chained_as, chained_all, last_node}
-use Rattle.search.proofs.links.link.Goals.{After-wide, After-wide-before, At-loop-i, In-loop-i}
+use Rattle.search.proofs.links.link.Goals.{After-wide, After-wide-before, In-loop-i}
 use Rattle.search.proofs.links.link.Goals as goal
 
--- in a turn: the owners, the owner's node, and how many nodes there are
-abbrev owners : At-loop-i → List ℕ
-owners c = c.args.owners.now
+-- in a turn: the owner's node, and how many nodes there are
+abbrev node : List ℕ → ℕ → ℕ
+node owners i = length owners + get_or owners i 0
 
-abbrev node : At-loop-i → ℕ
-node c = length (owners c) + get_or (owners c) c.loop-i.i 0
+record Sizes (n p : List ℕ) (i : ℕ) : Type 0 where
+  next : length n ≡ max_nodes
+  prev : length p ≡ max_nodes
+  index : i < max_records
 
-record Sizes (c : At-loop-i) : Type 0 where
-  next : length c.loop-i.next ≡ max_nodes
-  prev : length c.loop-i.prev ≡ max_nodes
-  owner : node c < max_nodes
-  index : c.loop-i.i < max_records
-
-sizes : (c : In-loop-i) → Sizes record { before = c.before.before; type_inv = record { owners = c.shared_slice_known-1.given } }
+sizes : (c : In-loop-i) → Sizes c.loop-i.next c.loop-i.prev c.loop-i.i
 sizes c =
-    let l = c.loop-i in
-    let p = c.requires.owned in
-    let h = l.invariant.1 in
-    let i = c.loop-i-test.true in
-    record { next = h.sized; prev = h.linked.level ∙ h.sized; owner = omega (arith, p.owner l.i i, p.few); index = omega (arith, p.few, i) }
+    let h = c.loop-i.invariant.1 in
+    record { next = h.sized; prev = h.linked.level ∙ h.sized; index = omega (arith, c.requires.owned.few, c.loop-i-test.true) }
 
-node_fits : (c : After-wide) → length (owners record { before = c.before.before.before.before; type_inv = record { owners = c.shared_slice_known-1.given } }) + c.wide.result < max_nodes
-node_fits c = omega (arith, (sizes record { before = c.before.before.before; type_inv = record { owners = c.shared_slice_known-1.given } }).owner, c.wide.ensures)
+node_fits : (c : After-wide) → length c.args.owners.now + c.wide.result < max_nodes
+node_fits c = let p = c.requires.owned in omega (arith, p.owner c.loop-i.i c.loop-i-test.true, p.few, c.wide.ensures)
 
 -- the owner's node as it is reckoned, and the last of its list
-ends_is : (c : After-wide-before) → length (owners record { before = c.before.before.before.before.before.before.before; type_inv = record { owners = c.shared_slice_known-1.given } }) + c.wide.result ≡ node record { before = c.before.before.before.before.before.before.before; type_inv = record { owners = c.shared_slice_known-1.given } }
-ends_is c = ap (λ (v : ℕ). length (owners record { before = c.before.before.before.before.before.before.before; type_inv = record { owners = c.shared_slice_known-1.given } }) + v) c.wide.ensures
+ends_is : (c : After-wide-before) → length c.args.owners.now + c.wide.result ≡ node c.args.owners.now c.loop-i.i
+ends_is c = ap (λ (v : ℕ). length c.args.owners.now + v) c.wide.ensures
 
-last_is : (c : After-wide-before) → c.wide-before.result ≡ get_or c.loop-i.prev (node record { before = c.before.before.before.before.before.before.before; type_inv = record { owners = c.shared_slice_known-1.given } }) 0
+last_is : (c : After-wide-before) → c.wide-before.result ≡ get_or c.loop-i.prev (node c.args.owners.now c.loop-i.i) 0
 last_is c = c.wide-before.ensures ∙ ap (λ (v : ℕ). get_or c.loop-i.prev v 0) (ends_is c)
 
 last_within : (c : After-wide-before) → c.wide-before.result < max_nodes
 last_within c =
     let l = c.loop-i in
     let h = l.invariant.1 in
-    omega (arith, last_is c, last_node (owners record { before = c.before.before.before.before.before.before.before; type_inv = record { owners = c.shared_slice_known-1.given } }) l.invariant.0 l.next l.prev max_nodes l.i h c.loop-i-test.true, h.sized)
+    omega (arith, last_is c, last_node c.args.owners.now l.invariant.0 l.next l.prev max_nodes l.i h c.loop-i-test.true, h.sized)
 
--- ---- and what it owes
 pub alone-requires : goal.alone-requires
 alone-requires c = c.requires.next_len.0
 
@@ -101,7 +94,7 @@ bounds-prev-i c = omega (arith, (sizes (goal.at.bounds-prev-i c).In-loop-i).prev
 pub loop-i-preserved : goal.loop-i-preserved
 loop-i-preserved c =
     let l = c.loop-i in
-    let o = owners (goal.at.loop-i-preserved c).At-loop-i in
+    let o = c.args.owners.now in
     let k = length o + c.wide.result in (
       _,
       chained_as o l.invariant.0 l.next l.prev max_nodes l.i l.invariant.1 c.loop-i-test.true c.wide-before.result k k (get_or l.prev k 0) (last_is (goal.at.loop-i-preserved c).After-wide-before) (ends_is (goal.at.loop-i-preserved c).After-wide-before) refl
@@ -111,7 +104,7 @@ loop-i-preserved c =
 pub returns : goal.returns
 returns c =
     let l = c.loop-i in
-    let o = owners (goal.at.returns c).At-loop-i in
+    let o = c.args.owners.now in
     let h = l.invariant.1 in
     let e : l.i ≡ length o = omega (arith, h.upto, c.loop-i-test.false) in
     let k = chained_all o l.invariant.0 l.next l.prev max_nodes l.i h e in
