@@ -55,7 +55,7 @@ search-loop-i-smaller t c =
     let l = c.loop-i in
     let q = asked t (goal.at.search-loop-i-smaller t c).Start in
     let e : c.if-length_in-bound.next ≡ l.next = elim c.if-length_in-bound.branch [
-      | search-then-length_in-bound w ↦ w.next-is ∙ w.step-s.ensures.next
+      | search-then-length_in-bound w ↦ ◌∙◌ {c = c.loop-i.next} w.next-is w.step-s.ensures.next
       | search-else-length_in-bound w ↦ w.next-is
     ] in
     let r : c.wide-i.result ≡ get_or l.next l.i 0 = led _ _ _ _ c.wide-i.ensures e in
