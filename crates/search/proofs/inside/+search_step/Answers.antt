@@ -1,15 +1,15 @@
 -- `search::inside::search` and `step` meet their contracts: unused records fall with each step, and the loop's invariant is that what is passed has been searched.
-use Prim.Native.Nat.{ℕ, ◌<◌, ◌≤◌, ◌+◌, ◌-◌, ◌*◌, min}
+use Prim.Native.Nat.{ℕ, ◌<◌, ◌+◌, min}
 use mathlib.Core.List.{List}
 use mathlib.Core.Path.{◌≡◌, sym, ap, subst, ◌∙◌}
 use native.Mathlib.Omega.{arith}
 use lib.ListN.{length, get_or}
 use Rattle.chains.specs.Listing.{free}
-use Rattle.search.specs.Links.{max_nodes, Memory, memory, unused_of, step_of, Fit, Ready, Done}
-use Rattle.search.specs.Search.{max_records, Records, records, target_of, length_of, ttl_of, State}
+use Rattle.search.specs.Links.{Memory, memory, step_of, Ready, Done}
+use Rattle.search.specs.Search.{Records, records, target_of, length_of, ttl_of, State}
 use Rattle.rows.specs.Halves.{address_of}
 use Rattle.rows.proofs.HalvesLaws.{address_length}
-use Rattle.search.proofs.StepLaws.{Taken, without, onward, done_finished, p_node, q_node, target_name, fewer, fit_without, nothing, searched_on, still_long, done_unfinished}
+use Rattle.search.proofs.StepLaws.{Taken, without, onward, done_finished, target_name, fewer, fit_without, nothing, searched_on, done_unfinished}
 use Rattle.search.proofs.GoingLaws.{memory_eq, done_as, Sought, sought, Going, going_start, going_ready, going_step, going_skip, going_over, going_end, further, same_unused}
 use Rattle.search.proofs.inside.+search_step.Goals.{search-Start, search-then-length_in-bound, search-else-length_in-bound}
 use Rattle.search.proofs.inside.+search_step.Goals.{step-Joined-first-owners, step-then-first-owners, step-else-first-owners}
@@ -47,7 +47,7 @@ search-step-s-requires t c =
     let e = same_unused q c.requires.fit c.loop-i.invariant c.loop-i-test.true in (
       omega (arith, c.decreases, ap free e),
       going_ready q c.requires.fit c.loop-i.invariant c.loop-i-test.true (address_length c.args.high c.args.low)
-      (omega (arith, c.length_in.ensures, c.if-length_in-bound.true)) (omega (arith, c.if-s-eq0.false)),
+          (omega (arith, c.length_in.ensures, c.if-length_in-bound.true)) (omega (arith, c.if-s-eq0.false)),
     )
 
 pub search-loop-i-smaller : goal.search-loop-i-smaller

@@ -61,12 +61,11 @@ refused : (c : After-search-left) (k : ℕ) → number c ≡ suc k → (r : Answ
     → (r ≡ refusal (suc k)) × (out ≡ blank (length (after c).out)) × (lives ≡ blank (length (after c).lives))
     → (r ≡ answer_of (graph c) c.args.x (number c))
     × (out ≡ output_of (graph c) c.args.x (number c) (length c.args.out.now)) × (lives ≡ lives_of (graph c) c.args.x (number c) (room c))
-refused c k e r out lives h =
-    (
-      h.0 ∙ refused_answer (suc k) _ (sym e) (not_nought k) _ _,
-      h.1 ∙ ap blank (out_kept c) ∙ refused_out (suc k) _ (sym e) (not_nought k) _ (length c.args.out.now),
-      h.2 ∙ ap blank (lives_kept c) ∙ refused_out (suc k) _ (sym e) (not_nought k) _ (room c),
-    )
+refused c k e r out lives h = (
+  h.0 ∙ refused_answer (suc k) _ (sym e) (not_nought k) _ _,
+  h.1 ∙ ap blank (out_kept c) ∙ refused_out (suc k) _ (sym e) (not_nought k) _ (length c.args.out.now),
+  h.2 ∙ ap blank (lives_kept c) ∙ refused_out (suc k) _ (sym e) (not_nought k) _ (room c),
+)
 
 pub search-left-requires : goal.search-left-requires
 search-left-requires c =

@@ -1,5 +1,4 @@
 -- `search::links::alone` meets its contract: one place more has its own number.
-use Prim.Native.Nat.{◌-◌}
 use mathlib.Core.Path.{◌≡◌, ◌∙◌, subst}
 use native.Mathlib.Omega.{arith}
 use lib.ListN.{length-set}
