@@ -8,7 +8,7 @@ use lib.ListN.{length, take, drop, length-drop, length-append, take-append-drop}
 use lib.Seq.{length-take-le, append_snoc}
 use native.Mathlib.Omega.{arith}
 use borrow.Author.Tests.{ne_eqb}
-use Rattle.octets.specs.Octets.{blank, same_by, same}
+use Rattle.octets.specs.Octets.{blank, same_by}
 use Rattle.octets.proofs.OctetLaws.{length_blank, nil_of_length}
 use Rattle.bits.specs.Packing.{Clean}
 use Rattle.labels.specs.Labels.{Label}

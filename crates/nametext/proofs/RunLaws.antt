@@ -7,7 +7,6 @@ use lib.Dec.{ltb}
 use lib.ListN.{length, take, drop, set, length-append}
 use native.Mathlib.Omega.{arith}
 use borrow.Author.Tests.{ltb-true, ltb-false}
-use Rattle.octets.specs.Octets.{same}
 use Rattle.bits.specs.Bits.{octets_for, unpack, pack_from}
 use Rattle.bits.specs.Packing.{Clean, Ready, Pushed, Flushed}
 use Rattle.bits.specs.declared.inside.Packer.{Packer}
