@@ -12,10 +12,11 @@
 // Any other line is printed as it is. The stored script has the examples of RFC 2874, section 5, of 01, of T-03 and of T-04.
 #![tactic(auto)]
 
-ghost use Rattle.std.specs.Prelude.{◌≡◌, ◌+◌, ◌≤◌, length};
+ghost use Rattle.std.specs.Prelude.{◌≡◌, ◌+◌, ◌≤◌, length, IfOk};
 ghost use Rattle.plan.specs.Layout.{record_size};
 
-use libc::STDIN_FILENO;
+use std::io;
+use std::io::Read;
 
 mod print;
 mod text;
@@ -35,16 +36,32 @@ const WORK: u32 = 10000;
 
 const REWRITES: u8 = 255;
 
-fn main() {
+fn main(rt: HostRuntime) -> io::Result<()> {
     let mut script = [0u8; SCRIPT];
-    let n = io::read_full(STDIN_FILENO, &mut script);
+    let n = read_full(&rt, &mut script)?;
     let mut table = [0u8; TABLE];
     let mut kept = [0u8; TABLE];
-    run(&script[..n], &mut table, &mut kept);
+    run(&rt, &script[..n], &mut table, &mut kept)
+}
+
+// Reads standard input until the buffer is full or the input ends; how many octets were read.
+fn read_full(rt: &impl Input, buf: &mut [u8]) -> io::Result<usize>
+    ensures { IfOk result (λ n. n ≤ length buf.new) }
+{
+    let mut input = rt.reader();
+    let mut done: usize = 0;
+    while done < buf.len() {
+        let n = input.read(&mut buf[done..])?;
+        if n == 0 {
+            break;
+        }
+        done += n;
+    }
+    Ok(done)
 }
 
 // The lines of a script, one after the other. The plan is the first `size` octets of the table, and zeros follow it.
-fn run(script: &[u8], table: &mut [u8], kept: &mut [u8])
+fn run(rt: &impl Print, script: &[u8], table: &mut [u8], kept: &mut [u8]) -> io::Result<()>
     requires { length kept.old ≡ length table.old }
 {
     let n = script.len();
@@ -52,72 +69,94 @@ fn run(script: &[u8], table: &mut [u8], kept: &mut [u8])
     let mut at: usize = 0;
     while at < n {
         let e = text::find(script, at, b'\n', true);
-        size = line(&script[at..e], table, kept, size);
+        size = line(rt, &script[at..e], table, kept, size)?;
         at = e + 1;
     }
+    Ok(())
 }
 
 // One line; the size of the plan after it.
-fn line(line: &[u8], table: &mut [u8], kept: &mut [u8], size: usize) -> usize
+fn line(
+    rt: &impl Print,
+    line: &[u8],
+    table: &mut [u8],
+    kept: &mut [u8],
+    size: usize,
+) -> io::Result<usize>
     requires { (size ≤ length table.old) × (length kept.old ≡ length table.old) }
-    ensures { result ≤ length table.old }
+    ensures { IfOk result (λ n. n ≤ length table.old) }
 {
     let verb = text::verb(line);
     if verb <= text::DNAME {
-        return add(verb, line, table, size);
+        return add(rt, verb, line, table, size);
     }
     if verb == text::COLLAPSE {
-        return collapse(line, table, size);
+        return collapse(rt, line, table, size);
     }
     if verb == text::PLAN {
         octets::clear(table);
-        return 0;
+        return Ok(0);
     }
-    tell(verb, line, table, kept, size);
-    size
+    tell(rt, verb, line, table, kept, size)?;
+    Ok(size)
 }
 
 // A line that leaves the plan as it is.
-fn tell(verb: usize, line: &[u8], table: &[u8], kept: &mut [u8], size: usize)
+fn tell(
+    rt: &impl Print,
+    verb: usize,
+    line: &[u8],
+    table: &[u8],
+    kept: &mut [u8],
+    size: usize,
+) -> io::Result<()>
     requires { (size ≤ length table.now) × (length kept.old ≡ length table.now) }
 {
     if verb == text::KEEP {
-        return octets::inside::copy(table, 0, table.len(), kept, 0);
+        octets::inside::copy(table, 0, table.len(), kept, 0);
+        return Ok(());
     }
     if verb == text::COMPARE {
-        return print::compared(octets::equal(table, kept));
+        return print::compared(rt, octets::equal(table, kept));
     }
-    ask(verb, line, &table[0..size]);
+    ask(rt, verb, line, &table[0..size])
 }
 
 // A question about a plan, or a line that is printed.
-fn ask(verb: usize, line: &[u8], plan: &[u8]) {
+fn ask(rt: &impl Print, verb: usize, line: &[u8], plan: &[u8]) -> io::Result<()> {
     if verb == text::LOOKUP {
-        return lookup(line, plan);
+        return lookup(rt, line, plan);
     }
     if verb == text::REVERSE {
-        return reverse(line, plan);
+        return reverse(rt, line, plan);
     }
     if verb != text::NOTE {
-        print::line(line);
+        return print::line(rt, line);
     }
+    Ok(())
 }
 
 // The plan with one record more, of the words of a line; its size.
-fn add(verb: usize, line: &[u8], table: &mut [u8], size: usize) -> usize
+fn add(
+    rt: &impl Print,
+    verb: usize,
+    line: &[u8],
+    table: &mut [u8],
+    size: usize,
+) -> io::Result<usize>
     requires { size ≤ length table.old }
-    ensures { result ≤ length table.old }
+    ensures { IfOk result (λ n. n ≤ length table.old) }
 {
     if table.len() - size < plan::inside::RECORD {
-        print::line(b"no room for a record");
-        return size;
+        print::line(rt, b"no room for a record")?;
+        return Ok(size);
     }
     if verb == text::A6 {
         put_a6(line, table, size);
-        return size + plan::inside::RECORD;
+        return Ok(size + plan::inside::RECORD);
     }
     put_dname(line, table, size);
-    size + plan::inside::RECORD
+    Ok(size + plan::inside::RECORD)
 }
 
 fn put_a6(line: &[u8], table: &mut [u8], size: usize)
@@ -157,25 +196,21 @@ fn put_dname(line: &[u8], table: &mut [u8], size: usize)
 }
 
 // The plan with a name folded in place of the plan; its size. A refusal leaves the plan as it is.
-fn collapse(line: &[u8], table: &mut [u8], size: usize) -> usize
+fn collapse(rt: &impl Print, line: &[u8], table: &mut [u8], size: usize) -> io::Result<usize>
     requires { size ≤ length table.old }
-    ensures { result ≤ length table.old }
+    ensures { IfOk result (λ n. n ≤ length table.old) }
 {
     let slot = text::slot(line, 1);
     let mut made = [0u8; TABLE];
     let reply = collapse::collapse(&table[0..size], plan::inside::name_in(&slot), &mut made);
-    let answer = reply.answer;
-    print::answered(line, reply, b": records ", b"");
-    print::line(b"");
-    if answer.number != 0 {
-        return size;
+    let number = reply.answer.number;
+    let count = reply.answer.count;
+    print::answered(rt, line, reply, b": records ", b"")?;
+    print::line(rt, b"")?;
+    if number != 0 {
+        return Ok(size);
     }
-    replace(
-        &made,
-        answer.count as usize * plan::inside::RECORD,
-        table,
-        size,
-    )
+    Ok(replace(&made, count as usize * plan::inside::RECORD, table, size))
 }
 
 // What was made in place of the table, where it fits; the size of the plan.
@@ -193,7 +228,7 @@ fn replace(made: &[u8], size: usize, table: &mut [u8], before: usize) -> usize
     size
 }
 
-fn lookup(line: &[u8], plan: &[u8]) {
+fn lookup(rt: &impl Print, line: &[u8], plan: &[u8]) -> io::Result<()> {
     let slot = text::slot(line, 1);
     let mut out = [0u8; 16 * ROOM];
     let mut ttls = [0u32; ROOM];
@@ -204,16 +239,17 @@ fn lookup(line: &[u8], plan: &[u8]) {
         &mut out,
         &mut ttls,
     );
-    print::answered(line, reply, b": addresses ", b", work ");
-    print::addresses(&out, reply.answer.count as usize * 16);
-    print::line(b"");
+    let count = reply.answer.count;
+    print::answered(rt, line, reply, b": addresses ", b", work ")?;
+    print::addresses(rt, &out, count as usize * 16)?;
+    print::line(rt, b"")
 }
 
-fn reverse(line: &[u8], plan: &[u8]) {
+fn reverse(rt: &impl Print, line: &[u8], plan: &[u8]) -> io::Result<()> {
     let address = text::address(line, 1);
     let mut out = [0u8; 255];
     let reply = reverse::lookup(plan, &address, REWRITES, &mut out);
-    print::answered(line, reply, b"", b": rewrites ");
-    print::name(&out);
-    print::line(b"");
+    print::answered(rt, line, reply, b"", b": rewrites ")?;
+    print::name(rt, &out)?;
+    print::line(rt, b"")
 }

@@ -1,64 +1,72 @@
 // To standard output: answers, addresses and names as text.
-ghost use Rattle.std.specs.Prelude.{◌+◌, ◌*◌, ◌≤◌, ◌<◌, length};
+ghost use Rattle.std.specs.Prelude.{◌+◌, ◌*◌, ◌≤◌, ◌<◌, length, IfOk};
 
-use libc::STDOUT_FILENO;
+use std::io;
 
-fn text(words: &[u8]) {
-    io::write_all(STDOUT_FILENO, words);
+fn text(rt: &impl Print, words: &[u8]) -> io::Result<()> {
+    rt.write_all(words)
 }
 
-pub fn line(words: &[u8]) {
-    text(words);
-    text(b"\n");
+pub fn line(rt: &impl Print, words: &[u8]) -> io::Result<()> {
+    text(rt, words)?;
+    text(rt, b"\n")
 }
 
 // Whether the plan is the one that was kept.
-pub fn compared(same: bool) {
+pub fn compared(rt: &impl Print, same: bool) -> io::Result<()> {
     if same {
-        line(b"compare: the kept plan, octet for octet");
+        line(rt, b"compare: the kept plan, octet for octet")
     } else {
-        line(b"compare: not the kept plan");
+        line(rt, b"compare: not the kept plan")
     }
 }
 
 // A question and the figures of its answer, or that it is refused, and for 2 and 3 which record and which field. Its line is not ended.
-pub fn answered(words: &[u8], reply: plan::Reply, first: &[u8], second: &[u8]) {
+pub fn answered(
+    rt: &impl Print,
+    words: &[u8],
+    reply: plan::Reply,
+    first: &[u8],
+    second: &[u8],
+) -> io::Result<()> {
     let answer = reply.answer;
     let number = answer.number;
-    text(words);
+    text(rt, words)?;
     if number == 2 || number == 3 {
-        figure(b": refused ", number as u32);
-        return place(reply.fault);
+        figure(rt, b": refused ", number as u32)?;
+        return place(rt, reply.fault);
     }
     if number != 0 {
-        return figure(b": refused ", number as u32);
+        return figure(rt, b": refused ", number as u32);
     }
-    figure(first, answer.count);
-    figure(second, answer.work);
+    figure(rt, first, answer.count)?;
+    figure(rt, second, answer.work)
 }
 
 // The place of a table's fault.
-fn place(fault: plan::Fault) {
-    figure(b", record ", fault.index);
-    figure(b", field ", fault.field as u32);
+fn place(rt: &impl Print, fault: plan::Fault) -> io::Result<()> {
+    figure(rt, b", record ", fault.index)?;
+    figure(rt, b", field ", fault.field as u32)
 }
 
 // A figure after what it is; nothing where that is not said.
-fn figure(label: &[u8], n: u32) {
+fn figure(rt: &impl Print, label: &[u8], n: u32) -> io::Result<()> {
     if 0 < label.len() {
-        text(label);
-        io::print_decimal(STDOUT_FILENO, n as u64);
+        text(rt, label)?;
+        return print!(rt; "{n}");
     }
+    Ok(())
 }
 
 // The first octets of an output as addresses, each on a line after this one.
-pub fn addresses(out: &[u8], count: usize) {
+pub fn addresses(rt: &impl Print, out: &[u8], count: usize) -> io::Result<()> {
     let n = least(count, out.len());
     let mut i: usize = 0;
     while i < n {
-        octet(out, i);
+        octet(rt, out, i)?;
         i += 1;
     }
+    Ok(())
 }
 
 fn least(a: usize, b: usize) -> usize
@@ -71,116 +79,120 @@ fn least(a: usize, b: usize) -> usize
 }
 
 // Two hex digits: the octet at a place, after what parts it from the one before.
-fn octet(out: &[u8], i: usize)
+fn octet(rt: &impl Print, out: &[u8], i: usize) -> io::Result<()>
     requires { i < length out.now }
 {
-    mark(i);
-    io::print_hex(STDOUT_FILENO, octets::wide(out[i]) as u64, 2);
+    mark(rt, i)?;
+    let x = out[i];
+    print!(rt; "{x:02x}")
 }
 
-fn mark(i: usize) {
+fn mark(rt: &impl Print, i: usize) -> io::Result<()> {
     if i % 16 == 0 {
-        return text(b"\n  ");
+        return text(rt, b"\n  ");
     }
     if i % 2 == 0 {
-        text(b":");
+        return text(rt, b":");
     }
+    Ok(())
 }
 
 // The name at the front of an output, on a line after this one: its labels, a point after each. Zeros print nothing.
-pub fn name(out: &[u8]) {
+pub fn name(rt: &impl Print, out: &[u8]) -> io::Result<()> {
     let n = out.len();
     let mut at: usize = 0;
     while at < n {
-        at = label(out, at);
+        at = label(rt, out, at)?;
     }
+    Ok(())
 }
 
 // The label at a place; where the next one begins.
-fn label(name: &[u8], at: usize) -> usize
+fn label(rt: &impl Print, name: &[u8], at: usize) -> io::Result<usize>
     requires { at < length name.now }
-    ensures { at < result }
+    ensures { IfOk result (λ next. at < next) }
 {
     let n = octets::wide(name[at]);
     if n == 0 {
-        return at + 1;
+        return Ok(at + 1);
     }
     if at == 0 {
-        text(b"\n  ");
+        text(rt, b"\n  ")?;
     }
     if n == 65 {
-        return bits(name, at);
+        return bits(rt, name, at);
     }
-    letters(name, at, n)
+    letters(rt, name, at, n)
 }
 
 // An ordinary label of n octets.
-fn letters(name: &[u8], at: usize, n: usize) -> usize
+fn letters(rt: &impl Print, name: &[u8], at: usize, n: usize) -> io::Result<usize>
     requires { at < length name.now }
-    ensures { at < result }
+    ensures { IfOk result (λ next. at < next) }
 {
     let a = at + 1;
     if name.len() - a < n {
-        return name.len();
+        return Ok(name.len());
     }
     let e = a + n;
-    text(&name[a..e]);
-    text(b".");
-    e
+    text(rt, &name[a..e])?;
+    text(rt, b".")?;
+    Ok(e)
 }
 
 // A bit label, `\[xDIGITS/COUNT]`.
-fn bits(name: &[u8], at: usize) -> usize
+fn bits(rt: &impl Print, name: &[u8], at: usize) -> io::Result<usize>
     requires { at < length name.now }
-    ensures { at < result }
+    ensures { IfOk result (λ next. at < next) }
 {
     if name.len() - at < 2 {
-        return name.len();
+        return Ok(name.len());
     }
     let count = labels::inside::count(name[at + 1]);
     let a = at + 2;
     let e = a + (count + 7) / 8;
     if name.len() < e {
-        return name.len();
+        return Ok(name.len());
     }
-    run(&name[a..e], count);
-    e
+    run(rt, &name[a..e], count)?;
+    Ok(e)
 }
 
-fn run(octets: &[u8], count: usize)
+fn run(rt: &impl Print, octets: &[u8], count: usize) -> io::Result<()>
     requires { (count ≤ 256) × (count ≤ 8 * length octets.now) }
 {
-    text(b"\\[x");
-    digits(octets, (count + 3) / 4);
-    figure(b"/", count as u32);
-    text(b"].");
+    text(rt, b"\\[x")?;
+    digits(rt, octets, (count + 3) / 4)?;
+    figure(rt, b"/", count as u32)?;
+    text(rt, b"].")
 }
 
 // As many hex digits as are asked for, two to an octet.
-fn digits(octets: &[u8], n: usize)
+fn digits(rt: &impl Print, octets: &[u8], n: usize) -> io::Result<()>
     requires { n ≤ 2 * length octets.now }
 {
     let mut k: usize = 0;
     while k < n {
-        digit(octets, k);
+        digit(rt, octets, k)?;
         k += 1;
     }
+    Ok(())
 }
 
-fn digit(octets: &[u8], k: usize)
+fn digit(rt: &impl Print, octets: &[u8], k: usize) -> io::Result<()>
     requires { k < 2 * length octets.now }
 {
     let x = octets[k / 2];
     if k % 2 == 0 {
-        letter(x / 16);
+        letter(rt, x / 16)
     } else {
-        letter(x);
+        letter(rt, x)
     }
 }
 
 // The hex digit of the last four bits.
-fn letter(x: u8) {
+fn letter(rt: &impl Print, x: u8) -> io::Result<()> {
     let d = octets::wide(x % 16);
     let all = *b"0123456789ABCDEF";
-    text(&all[d..d + 1]);
+    text(rt, &all[d..d + 1])
 }

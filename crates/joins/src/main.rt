@@ -3,38 +3,56 @@
 // read, and a case that is cut short gets no answer.
 #![tactic(auto)]
 
-ghost use Rattle.std.specs.Prelude.{◌≡◌, length};
+ghost use Rattle.std.specs.Prelude.{◌≡◌, ◌≤◌, length, IfOk};
 
-use libc::{STDIN_FILENO, STDOUT_FILENO};
+use std::io;
+use std::io::Read;
 
 // The octets of a case, and the most octets that are read: all 256 positions for seven pairs of addresses.
 const CASE: usize = 33;
 
 const MOST: usize = 7 * 256 * CASE;
 
-fn main() {
+fn main(rt: HostRuntime) -> io::Result<()> {
     let mut input = [0u8; MOST];
-    let n = io::read_full(STDIN_FILENO, &mut input);
-    answer(&input[..n]);
+    let n = read_full(&rt, &mut input)?;
+    answer(&rt, &input[..n])
+}
+
+// Reads standard input until the buffer is full or the input ends; how many octets were read.
+fn read_full(rt: &impl Input, buf: &mut [u8]) -> io::Result<usize>
+    ensures { IfOk result (λ n. n ≤ length buf.new) }
+{
+    let mut input = rt.reader();
+    let mut done: usize = 0;
+    while done < buf.len() {
+        let n = input.read(&mut buf[done..])?;
+        if n == 0 {
+            break;
+        }
+        done += n;
+    }
+    Ok(done)
 }
 
 // The cases, one after the other.
-fn answer(cases: &[u8]) {
+fn answer(rt: &impl Print, cases: &[u8]) -> io::Result<()> {
     let n = cases.len();
     let mut at: usize = 0;
     while CASE <= n - at {
-        write_joined(&cases[at..at + CASE]);
+        write_joined(rt, &cases[at..at + CASE])?;
         at += CASE;
     }
+    Ok(())
 }
 
 // The answer to one case.
-fn write_joined(case: &[u8])
+fn write_joined(rt: &impl Print, case: &[u8]) -> io::Result<()>
     requires { length case.now ≡ 33 }
 {
     let mut high = [0u8; 16];
     let mut low = [0u8; 16];
     octets::inside::copy(case, 0, 16, &mut high, 0);
     octets::inside::copy(case, 16, 16, &mut low, 0);
-    io::write_all(STDOUT_FILENO, &address::join(high, low, case[32]));
+    rt.write_all(&address::join(high, low, case[32]))
 }

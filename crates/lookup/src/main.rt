@@ -3,7 +3,10 @@
 // and for 2 and 3 the index of the record and the number of its field (T-04).
 #![tactic(auto)]
 
-use libc::{STDIN_FILENO, STDOUT_FILENO};
+ghost use Rattle.std.specs.Prelude.{◌≤◌, length, IfOk};
+
+use std::io;
+use std::io::Read;
 
 // The octets of a slot, and the most octets that are read: the slot and 120 records.
 const SLOT: usize = 256;
@@ -15,105 +18,108 @@ const LIMIT: u32 = 10000;
 
 const ROOM: usize = 64;
 
-fn main() {
+fn main(rt: HostRuntime) -> io::Result<()> {
     let mut input = [0u8; MOST + 1];
-    let n = io::read_full(STDIN_FILENO, &mut input);
-    answer(&input[..n]);
+    let n = read_full(&rt, &mut input)?;
+    answer(&rt, &input[..n])
+}
+
+// Reads standard input until the buffer is full or the input ends; how many octets were read.
+fn read_full(rt: &impl Input, buf: &mut [u8]) -> io::Result<usize>
+    ensures { IfOk result (λ n. n ≤ length buf.new) }
+{
+    let mut input = rt.reader();
+    let mut done: usize = 0;
+    while done < buf.len() {
+        let n = input.read(&mut buf[done..])?;
+        if n == 0 {
+            break;
+        }
+        done += n;
+    }
+    Ok(done)
 }
 
 // The answer to the whole input. A slot that is missing or not zero after its name comes before too many octets.
-fn answer(input: &[u8]) {
+fn answer(rt: &impl Print, input: &[u8]) -> io::Result<()> {
     if input.len() < SLOT {
-        write_refused(4);
-        return;
+        return write_refused(rt, 4);
     }
     let slot = &input[..SLOT];
     let end = 1 + octets::wide(slot[0]);
     if !octets::zeros::is_blank(slot, end) {
-        write_refused(4);
-        return;
+        return write_refused(rt, 4);
     }
     if MOST < input.len() {
-        write_refused(1);
-        return;
+        return write_refused(rt, 1);
     }
-    look(&slot[1..end], &input[SLOT..]);
+    look(rt, &slot[1..end], &input[SLOT..])
 }
 
 // The answer for a name and a table.
-fn look(name: &[u8], table: &[u8]) {
+fn look(rt: &impl Print, name: &[u8], table: &[u8]) -> io::Result<()> {
     let mut out = [0u8; 16 * ROOM];
     let mut ttls = [0u32; ROOM];
     let reply = forward::lookup(table, name, LIMIT, &mut out, &mut ttls);
     let found = reply.answer;
     let number = found.number;
     if number == 2 || number == 3 {
-        write_fault(number, reply.fault);
-        return;
+        return write_fault(rt, number, reply.fault);
     }
     if number != 0 {
-        write_refused(number);
-        return;
+        return write_refused(rt, number);
     }
-    write_lines(&out, found.count);
-    write_done(found.count, found.work);
+    write_lines(rt, &out, found.count)?;
+    write_done(rt, found.count, found.work)
 }
 
 // A line for each sixteen octets, as many as `count` says.
-fn write_lines(out: &[u8], count: u32) {
+fn write_lines(rt: &impl Print, out: &[u8], count: u32) -> io::Result<()> {
     for k in 0..64 {
         if k < count {
-            write_line(out, k as usize * 16);
+            write_line(rt, out, k as usize * 16)?;
         }
     }
+    Ok(())
 }
 
 // A line of 32 hex digits: the sixteen octets from a place on.
-fn write_line(out: &[u8], at: usize) {
+fn write_line(rt: &impl Print, out: &[u8], at: usize) -> io::Result<()> {
     for k in 0..16 {
-        write_octet(out, at, k);
+        write_octet(rt, out, at, k)?;
     }
-    newline();
+    newline(rt)
 }
 
 // Two hex digits: the octet at a place, if there is one.
-fn write_octet(out: &[u8], at: usize, k: usize) {
+fn write_octet(rt: &impl Print, out: &[u8], at: usize, k: usize) -> io::Result<()> {
     if at < out.len() {
         if k < out.len() - at {
-            two_digits(out[at + k]);
+            return two_digits(rt, out[at + k]);
         }
     }
+    Ok(())
 }
 
-fn two_digits(x: u8) {
-    io::print_hex(STDOUT_FILENO, x as u64, 2);
+fn two_digits(rt: &impl Print, x: u8) -> io::Result<()> {
+    print!(rt; "{x:02x}")
 }
 
-fn newline() {
-    io::write_all(STDOUT_FILENO, b"\n");
+fn newline(rt: &impl Print) -> io::Result<()> {
+    println!(rt)
 }
 
-fn write_refused(number: u8) {
-    io::write_all(STDOUT_FILENO, b"refused ");
-    io::print_decimal(STDOUT_FILENO, number as u64);
-    newline();
+fn write_refused(rt: &impl Print, number: u8) -> io::Result<()> {
+    println!(rt; "refused {number}")
 }
 
 // The same with the place of the table's fault.
-fn write_fault(number: u8, fault: plan::Fault) {
-    io::write_all(STDOUT_FILENO, b"refused ");
-    io::print_decimal(STDOUT_FILENO, number as u64);
-    io::write_all(STDOUT_FILENO, b" ");
-    io::print_decimal(STDOUT_FILENO, fault.index as u64);
-    io::write_all(STDOUT_FILENO, b" ");
-    io::print_decimal(STDOUT_FILENO, fault.field as u64);
-    newline();
+fn write_fault(rt: &impl Print, number: u8, fault: plan::Fault) -> io::Result<()> {
+    let index = fault.index;
+    let field = fault.field;
+    println!(rt; "refused {number} {index} {field}")
 }
 
-fn write_done(count: u32, work: u32) {
-    io::write_all(STDOUT_FILENO, b"done ");
-    io::print_decimal(STDOUT_FILENO, count as u64);
-    io::write_all(STDOUT_FILENO, b" ");
-    io::print_decimal(STDOUT_FILENO, work as u64);
-    newline();
+fn write_done(rt: &impl Print, count: u32, work: u32) -> io::Result<()> {
+    println!(rt; "done {count} {work}")
 }
