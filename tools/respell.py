@@ -55,7 +55,8 @@ def main(root):
         both.setdefault(old, names.get(new, new))
     n = 0
     for folder, dirs, files in os.walk(root):
-        dirs[:] = [d for d in dirs if d not in (".git", "out", "target", "tools")]
+        # cargo's folder target is left out, and not the folder of a function of that name
+        dirs[:] = [d for d in dirs if d not in (".git", "out", "tools") and not (d == "target" and "/proofs" not in folder)]
         for name in files:
             path = os.path.join(folder, name)
             inside = os.path.relpath(path, root)

@@ -38,6 +38,7 @@ module _ {N : Type 0} (g : Graph N) where
       }
 
   from : (x : N) (b i : ℕ) (p : List ℕ) → Walk g x b p → In i p → b ≤ g.len i → Rest b i p
+  from x b i [] w x5 h = elim x5 [ ]
   from x b i (j ∷ p) w (inl e) h = subst (λ (k : ℕ). Rest b k (j ∷ p)) (sym e) (here x b j p w)
   from x b i (j ∷ p) w (inr m) h = later x b i j p w m h (from (g.target j) (g.len j) i p w.1 m (omega (arith, w.0.2)))
 

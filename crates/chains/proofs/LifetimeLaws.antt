@@ -36,6 +36,7 @@ module _ {N : Type 0} (g : Graph N) where
 
   least_record : (t : ℕ) (p : List ℕ) (i : ℕ) → In i p → least_ttl g t p ≤ g.ttl i
   unfolding least_ttl
+  least_record t [] i x' = elim x' [ ]
   least_record t (j ∷ p) i (inl e) =
       subst (λ (k : ℕ). least_ttl g (min t (g.ttl j)) p ≤ g.ttl k) (sym e) (omega (arith, least_below (min t (g.ttl j)) p))
   least_record t (j ∷ p) i (inr m) = least_record (min t (g.ttl j)) p i m
@@ -77,11 +78,12 @@ module _ {N : Type 0} (g : Graph N) where
 
     lifetime_record : (t : ℕ) (ps : List (List ℕ)) (p : List ℕ) (i : ℕ) → In p ps → By p → In i p → lifetime_in g b f a t ps ≤ g.ttl i
     unfolding lifetime_in
+    lifetime_record t [] p i x3 h m = elim x3 [ ]
     lifetime_record t (q ∷ ps) p i (inl e) h m =
         let k : least_ttl g max_ttl q ≤ g.ttl i = least_record max_ttl q i (subst (λ (r : List ℕ). In i r) e m) in
         let s : spells q ≡ true = ap spells (sym e) ∙ by_spells p h in
         rw s (omega (arith, k, lifetime_below (min t (least_ttl g max_ttl q)) ps))
-    lifetime_record t (q ∷ ps) p i (inr n) h m = lifetime_record _ ps p i n h m
+    lifetime_record t (q ∷ ps) p i (inr n) h m = lifetime_record (pick (spells q) (min t (least_ttl g max_ttl q)) t) ps p i n h m
 
     -- what has the least: one of the records of one of the chains
     abbrev Has : List (List ℕ) → ℕ → Type 0
@@ -90,7 +92,7 @@ module _ {N : Type 0} (g : Graph N) where
     lifetime_one : (t : ℕ) (ps : List (List ℕ)) → (lifetime_in g b f a t ps ≡ t) ⊎ (lifetime_in g b f a t ps ≡ max_ttl) ⊎ Has ps (lifetime_in g b f a t ps)
     unfolding lifetime_in
     lifetime_one t [] = inl refl
-    lifetime_one t (p ∷ ps) = ⊎_elim (first (spells p) refl) (⊎_elim (λ e. inr (inl e)) (λ r. inr (inr (r.0, r.1, inr r.2, r.3, r.4, r.5)))) (lifetime_one _ ps)
+    lifetime_one t (p ∷ ps) = ⊎_elim (first (spells p) refl) (⊎_elim (λ e. inr (inl e)) (λ r. inr (inr (r.0, r.1, inr r.2, r.3, r.4, r.5)))) (lifetime_one (pick (spells p) (min t (least_ttl g max_ttl p)) t) ps)
       where
         rest : ℕ
         rest = lifetime_in g b f a (pick (spells p) (min t (least_ttl g max_ttl p)) t) ps
@@ -146,7 +148,7 @@ module _ {N : Type 0} (g : Graph N) (b : ℕ) (f f' : List ℕ → List ℕ) (a 
   unfolding lifetime_in
   lifetime_same t [] h = refl
   lifetime_same t (p ∷ ps) h =
-      ap (λ (c : Bool). lifetime_in g b f a (pick c (min t (least_ttl g max_ttl p)) t) ps) (go (eqb (last_length g b p) 0) refl) ∙ lifetime_same _ ps (λ q m. h q (inr m))
+      ap (λ (c : Bool). lifetime_in g b f a (pick c (min t (least_ttl g max_ttl p)) t) ps) (go (eqb (last_length g b p) 0) refl) ∙ lifetime_same (pick (eqb (last_length g b p) 0 && same (f' p) a) (min t (least_ttl g max_ttl p)) t) ps (λ q m. h q (inr m))
     where
       go : (c : Bool) → eqb (last_length g b p) 0 ≡ c → c && same (f p) a ≡ c && same (f' p) a
       go true e = ap (λ (v : List ℕ). same v a) (h p (inl refl) (eqb-true (last_length g b p) 0 e))
@@ -172,7 +174,7 @@ module _ {N M : Type 0} (g : Graph N) (h : Graph M) (r : Renamed g h) (ttls : (i
       let e = last_renamed g h r b p (w p (inl refl)) in
       let s = spelt_renamed g h r p (w p (inl refl)) in
       let l = least_renamed max_ttl p (w p (inl refl)) in
-      in_renamed b a _ ps (λ q m. w q (inr m)) ∙ λ i. lifetime_in h b (spelt h) a (pick (eqb (e i) 0 && same (s i) a) (min t (l i)) t) ps
+      in_renamed b a (pick (eqb (last_length g b p) 0 && same (spelt g p) a) (min t (least_ttl g max_ttl p)) t) ps (λ q m. w q (inr m)) ∙ λ i. lifetime_in h b (spelt h) a (pick (eqb (e i) 0 && same (s i) a) (min t (l i)) t) ps
 
   pub lifetime_renamed : (x : N) (y : M) → Alike g h x y → (a : List ℕ) → lifetime_of g x a ≡ lifetime_of h y a
   unfolding lifetime_of

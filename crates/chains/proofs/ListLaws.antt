@@ -33,6 +33,7 @@ module _ {A : Type 0} (a : A) where
   in_append (x ∷ xs) ys (inr h) = ⊎_elim (λ k. inl (inr k)) inr (in_append xs ys h)
 
   pub in_left : (xs ys : List A) → In a xs → In a (xs ++ ys)
+  in_left [] ys x' = elim x' [ ]
   in_left (x ∷ xs) ys (inl e) = inl e
   in_left (x ∷ xs) ys (inr h) = inr (in_left xs ys h)
 
@@ -41,10 +42,12 @@ module _ {A : Type 0} (a : A) where
   in_right (x ∷ xs) ys h = inr (in_right xs ys h)
 
   pub in_pick : (t : Bool) (xs : List A) → In a (pick t xs []) → (t ≡ true) × In a xs
+  in_pick false xs h = elim h [ ]
   in_pick true xs h = (refl, h)
 
   pub in_up_to : (n : ℕ) (f : ℕ → List A) → In a (up_to n f) → (i : ℕ) × (i < n) × In a (f i)
   unfolding up_to
+  in_up_to zero f h = elim h [ ]
   in_up_to (suc n) f h =
       ⊎_elim (λ k. let r = in_up_to n f k in (r.0, omega (arith, r.1), r.2)) (λ k. (n, omega arith, k)) (in_append (up_to n f) (f n) h)
 
@@ -69,10 +72,12 @@ find i (j ∷ p) = go (ℕ_discrete i j) (find i p)
 
 -- ---- the same number before each of some lists
 pub in_map : (i : ℕ) (q : List ℕ) (ps : List (List ℕ)) → In q (map (λ p. i ∷ p) ps) → (p : List ℕ) × (q ≡ i ∷ p) × In p ps
+in_map i q [] x' = elim x' [ ]
 in_map i q (p ∷ ps) (inl e) = (p, e, inl refl)
 in_map i q (p ∷ ps) (inr h) = let r = in_map i q ps h in (r.0, r.1, inr r.2)
 
 pub map_in : (i : ℕ) (p : List ℕ) (ps : List (List ℕ)) → In p ps → In (i ∷ p) (map (λ p. i ∷ p) ps)
+map_in i p [] x' = elim x' [ ]
 map_in i p (q ∷ ps) (inl e) = inl (ap (λ (l : List ℕ). i ∷ l) e)
 map_in i p (q ∷ ps) (inr h) = inr (map_in i p ps h)
 
@@ -112,6 +117,7 @@ module _ {A : Type 0} where
     others : (b : A) → In b l → (b ≡ a → ⊥) → In b rest
 
   without : (a : A) (l : List A) → In a l → Without a l
+  without a [] x' = elim x' [ ]
   without a (x ∷ l) (inl e) = record { rest = l; shorter = refl; others = λ b m n. ⊎_elim (λ q. absurd (n (q ∙ sym e))) (λ k. k) m }
   without a (x ∷ l) (inr m) =
       let w = without a l m in

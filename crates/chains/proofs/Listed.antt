@@ -57,6 +57,7 @@ module _ {N : Type 0} (g : Graph N) where
 
   paths_good : (most : ℕ) (u : List ℕ) (x : N) (b : ℕ) (p : List ℕ) → 0 < b → In p (paths g most u x b) → Good u x b p
   unfolding paths
+  paths_good zero u x b p n m = elim m [ ]
   paths_good (suc most) u x b p n m =
       let r = in_up_to p g.size _ m in
       let q = in_pick p (fits g u x b r.0) _ r.2 in
@@ -85,6 +86,7 @@ module _ {N : Type 0} (g : Graph N) where
   heads i p ps (inr m) = go (eqb (g.len i) 0) m
     where
       go : (t : Bool) → In p (pick t [] (map (λ p. i ∷ p) ps)) → (q : List ℕ) × (p ≡ i ∷ q)
+      go true k = elim k [ ]
       go false k = let r = in_map i p ps k in (r.0, r.1)
 
   extend_distinct : (i : ℕ) (ps : List (List ℕ)) → Distinct ps → ((p : List ℕ) → In p ps → p ≡ [] → ⊥) → Distinct (extend g i ps)
@@ -97,6 +99,7 @@ module _ {N : Type 0} (g : Graph N) where
 
   paths_filled : (most : ℕ) (u : List ℕ) (x : N) (b : ℕ) (p : List ℕ) → In p (paths g most u x b) → p ≡ [] → ⊥
   unfolding paths
+  paths_filled zero u x b p m e = elim m [ ]
   paths_filled (suc most) u x b p m e =
       let r = in_up_to p g.size _ m in
       let k = heads r.0 p _ (in_pick p (fits g u x b r.0) _ r.2).1 in
@@ -158,6 +161,7 @@ module _ {N : Type 0} (g : Graph N) (x : N) where
   chains_distinct = paths_distinct g (suc (free (blank g.size))) (blank g.size) x 128
 
   filled : (p : List ℕ) → Chain g x p → p ≡ [] → ⊥
+  filled [] c = elim c [ ]
   filled (i ∷ p) c = cons≢nil
 
   module _ (sound : Sound g) where

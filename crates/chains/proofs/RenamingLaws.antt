@@ -33,6 +33,7 @@ module _ {N : Type 0} (g : Graph N) where
   linked_below i (j ∷ p) l = (l.0.1.0, linked_below j p l.1)
 
   pub chain_below : (x : N) (p : List ℕ) → Chain g x p → Below g.size p
+  chain_below x [] c = elim c [ ]
   chain_below x (i ∷ p) c = (c.0.0, linked_below i p c.1)
 
 module _ {N M : Type 0} (g : Graph N) (h : Graph M) where
@@ -133,6 +134,7 @@ module _ {N M : Type 0} (g : Graph N) (h : Graph M) where
         )
 
     chain_renamed : (x : N) (y : M) (p : List ℕ) → Alike g h x y → Chain g x p → Chain h y p
+    chain_renamed x y [] e c = elim c [ ]
     chain_renamed x y (i ∷ p) e c = (starts_renamed x y i e c.0, linked_renamed i p c.0.0 c.1)
 
     spells_over : (x : N) (y : M) (a : List ℕ) → Alike g h x y → Spells g x a → Spells h y a

@@ -106,6 +106,7 @@ module _ {N : Type 0} (g : Graph N) where
     -- Theorem: a search that begins with 128 bits open spells what the chain spells
     pub spell_spelt : (x : N) (p a : List ℕ) → Chain g x p → Complete g p → length a ≡ 16 → spell g 128 a p ≡ spelt g p
     unfolding last_length
+    spell_spelt x [] a c z n = elim c [ ]
     spell_spelt x (i ∷ p) a c z n =
         spell_join i p 128 a c.0.0 (sound.short i c.0.0) c.1 z n
         ∙ join_all (spelt g (i ∷ p)) a 128 (spelt_length (i ∷ p)) n (spelt_small (i ∷ p)) (omega arith)

@@ -23,6 +23,7 @@ module _ {N : Type 0} (g : Graph N) where
   walk_linked i (j ∷ p) w = (w.0, walk_linked j p w.1)
 
   pub chain_walk : (x : N) (b : ℕ) (p : List ℕ) → 0 < b → ((i : ℕ) → i < g.size → g.len i ≤ b) → Chain g x p → Walk x b p
+  chain_walk x b [] h short c = elim c [ ]
   chain_walk x b (i ∷ p) h short c = ((h, c.0, short i c.0.0), linked_walk i p c.1)
 
   pub walk_chain : (x : N) (b : ℕ) (p : List ℕ) → (p ≡ [] → ⊥) → Walk x b p → Chain g x p
@@ -31,10 +32,12 @@ module _ {N : Type 0} (g : Graph N) where
 
   -- each position is one of the graph's
   pub walk_within : (x : N) (b i : ℕ) (p : List ℕ) → Walk x b p → In i p → i < g.size
+  walk_within x b i [] w x4 = elim x4 [ ]
   walk_within x b i (j ∷ p) w (inl e) = subst (λ (k : ℕ). k < g.size) (sym e) w.0.1.0
   walk_within x b i (j ∷ p) w (inr m) = walk_within (g.target j) (g.len j) i p w.1 m
 
   -- prefix lengths never grow along a chain
   pub length_falls : (x : N) (b i : ℕ) (p : List ℕ) → Walk x b p → In i p → g.len i ≤ b
+  length_falls x b i [] w x4 = elim x4 [ ]
   length_falls x b i (j ∷ p) w (inl e) = subst (λ (k : ℕ). g.len k ≤ b) (sym e) w.0.2
   length_falls x b i (j ∷ p) w (inr m) = le_trans (length_falls (g.target j) (g.len j) i p w.1 m) w.0.2

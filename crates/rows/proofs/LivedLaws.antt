@@ -78,6 +78,7 @@ module _ (v : List ℕ) (t : ℕ) (life : List ℕ → ℕ) where
 -- an address that is not found at its place is not in the list
 not_listed : (v : List ℕ) (l : List (List ℕ)) → Ascending l → (rank v l < length l → order_of (get_or l (rank v l) []) v ≡ Same → ⊥) → In v l → ⊥
 unfolding rank
+not_listed v [] s n x3 = elim x3 [ ]
 not_listed v (a ∷ l) s n (inl e) =
     let q : order_of a v ≡ Same = equal_same a v (sym e) in
     let z : choose (order_of a v) (suc (rank v l)) 0 0 ≡ 0 = ap (λ (o : Order). choose o (suc (rank v l)) 0 0) q in

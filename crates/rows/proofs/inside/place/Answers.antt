@@ -1,0 +1,27 @@
+use Rattle.std.proofs.Common.{◌-◌, sym, ◌∙◌, arith}
+use Rattle.rows.specs.Halves.{address_of}
+use Rattle.rows.proofs.RowsLaws.{seeking_start, seeking_right, seeking_left, seeking_end, not_before}
+use Rattle.rows.proofs.inside.place.Goals as goal
+
+pub loop-from-init : goal.loop-from-init
+loop-from-init c =
+    let a = c.args in
+    (omega arith, omega arith, seeking_start a.out.now (address_of a.high a.low) a.count)
+
+pub loop-from-preserved-in-Before : goal.loop-from-preserved-in-Before
+loop-from-preserved-in-Before c =
+    let a = c.args in
+    let l = c.loop-from in
+    (omega arith, l.invariant.1, seeking_right a.out.now (address_of a.high a.low) _ l.from l.to c.loop-from-test.true l.invariant.2 (sym c.in-Before.ensures))
+
+pub loop-from-preserved : goal.loop-from-preserved
+loop-from-preserved c =
+    let a = c.args in
+    let l = c.loop-from in
+    (omega arith, omega arith, seeking_left a.out.now (address_of a.high a.low) _ l.from l.to c.loop-from-test.true l.invariant.2 (λ e. c.in_default.not-Before (c.stands-order.ensures ∙ e)))
+
+pub returns : goal.returns
+returns c =
+    let a = c.args in
+    let l = c.loop-from in
+    (seeking_end a.out.now (address_of a.high a.low) _ l.from l.to (omega arith) l.invariant.2, omega arith)
