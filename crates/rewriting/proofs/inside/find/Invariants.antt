@@ -1,0 +1,11 @@
+-- `rewriting::inside::find` meets its contract. The loop's invariant: so many units are still to be passed.
+use Prim.Native.Nat.{◌-◌}
+use lib.ListN.{length}
+use Rattle.rewriting.proofs.SpotLaws.{Seeking}
+use Rattle.rewriting.proofs.inside.find.Given as goal
+
+abbrev pub invariant-loop-at : goal.invariant-loop-at
+invariant-loop-at l = Seeking l.name l.j l.at l.left
+
+abbrev pub decreases-loop-at : goal.decreases-loop-at
+decreases-loop-at l = length l.name - l.at
