@@ -42,6 +42,7 @@ module _ (x t : List ℕ) (i : ℕ) where
 
 -- ---- elements by their positions
 at_in : (r : List ℕ) (l : List (List ℕ)) → In r l → (j : ℕ) × (j < length l) × (get_or l j [] ≡ r)
+at_in r [] x' = elim x' [ ]
 at_in r (s ∷ l) (inl e) = (0, omega arith, sym e)
 at_in r (s ∷ l) (inr m) = let p = at_in r l m in (suc p.0, omega (arith, p.1), p.2)
 

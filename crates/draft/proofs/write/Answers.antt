@@ -1,0 +1,18 @@
+-- `draft::write` meets its contract: the whole address before the prefix length.
+use mathlib.Core.Path.{◌≡◌, ◌∙◌}
+use lib.ListN.{length}
+use native.Mathlib.Omega.{arith}
+use borrow.Author.Rules.{rules}
+use Rattle.a6.proofs.AcceptedLaws.{laid_answer, laid_out}
+use Rattle.draft.proofs.DataLaws.{data_laid}
+use Rattle.draft.proofs.write.Goals as goal
+
+pub lay-requires : goal.lay-requires
+lay-requires c = (search rules, search rules, omega arith)
+
+pub returns : goal.returns
+returns c = 
+    let v = c.args.value in
+    let long : length v.address ≡ 16 = search rules in
+    let d = data_laid v (omega (arith, long)) in
+    let r = c.lay.ensures in record { value = r.value ∙ laid_answer v 16 _ d _; out_after = r.out_after ∙ laid_out v 16 _ d _ }
