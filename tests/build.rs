@@ -1,4 +1,4 @@
-// Links the static library of the crate `a6plan`, built before by `rt staticlib a6plan`.
+// Links the static library, built before by `tools/staticlib` from the crate `a6plan_c`.
 
 use std::env;
 use std::path::Path;
@@ -10,7 +10,7 @@ fn main() {
     println!("cargo:rerun-if-changed={}", archive.display());
     println!("cargo:rerun-if-changed=build.rs");
     if !archive.exists() {
-        panic!("no ../target/staticlib/liba6plan.a: build it first with `rt staticlib a6plan`");
+        panic!("no ../target/staticlib/liba6plan.a: build it first with `tools/staticlib`");
     }
     println!("cargo:rustc-link-search=native={}", folder.display());
     println!("cargo:rustc-link-lib=static=a6plan");

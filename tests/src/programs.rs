@@ -1,13 +1,13 @@
-//! The programs that `rt ci` builds, run.
+//! The programs that `rt ci` and `rt run` build, run.
 
 use crate::tree::repository;
 use std::io::Write;
 use std::path::{Path, PathBuf};
 use std::process::{Command, Stdio};
 
-/// A program where it has been built; `rt ci` builds it.
+/// A program where it has been built; `rt ci` builds it, and `rt run` in its crate's folder.
 pub fn built(program: &str) -> Option<PathBuf> {
-    let path = repository().join("target/bin").join(program);
+    let path = repository().join("crates").join(program).join("out").join(program);
     if path.exists() {
         return Some(path);
     }

@@ -22,11 +22,23 @@ pub fn names_in(folder: &str, ending: &str) -> Vec<String> {
     names
 }
 
-/// Each crate and those that it stands on, as crates.txt has them.
-pub fn edges() -> Vec<(String, Vec<String>)> {
+/// The lines of crates.txt: what stands before the colon, and what stands after it.
+fn lines() -> Vec<(String, String)> {
     let list = text_of("crates.txt");
     let lines = list.lines().filter(|line| !line.starts_with('#')).map(|line| line.split_once(':').expect("NAME: .."));
-    lines.map(|(name, below)| (name.to_owned(), below.split_whitespace().map(str::to_owned).collect())).collect()
+    lines.map(|(crate_, below)| (crate_.to_owned(), below.to_owned())).collect()
+}
+
+/// Each crate and those that it stands on, as crates.txt has them.
+pub fn edges() -> Vec<(String, Vec<String>)> {
+    let name = |words: &str| words.split_whitespace().next().expect("NAME: ..").to_owned();
+    let names = |words: &str| words.split_whitespace().map(str::to_owned).collect();
+    lines().iter().map(|(crate_, below)| (name(crate_), names(below))).collect()
+}
+
+/// Whether crates.txt says that a crate is a static library, which exports to C what a library promises.
+pub fn is_exporting(name: &str) -> bool {
+    lines().iter().any(|(crate_, _)| crate_.split_whitespace().eq([name, "staticlib"]))
 }
 
 /// The crates, each after those that it stands on.

@@ -135,9 +135,8 @@ fn the_architecture_is_that_of_the_crates() {
         layers.extend(ticked(&row[1]).into_iter().map(|name| (name, layer)));
     }
     for (name, below) in edges() {
-        // The kit's own crates have no layer here.
-        for lower in below.iter().filter(|lower| !["io", "libc"].contains(&lower.as_str())) {
-            assert!(layers[lower] < layers[&name], "{name} stands on {lower}, which is no layer below");
+        for lower in below {
+            assert!(layers[&lower] < layers[&name], "{name} stands on {lower}, which is no layer below");
         }
     }
     assert_eq!(layers.into_keys().collect::<BTreeSet<_>>(), crates().into_iter().collect());

@@ -1,5 +1,7 @@
-//! The C header declares what the crate `a6plan` exports, with the same types in the same order, and numbers the fields.
+//! The C header declares what the crate `a6plan_c` exports, with the same types in the same order, and numbers the fields;
+//! and each export promises what the function of the crate `a6plan` does.
 
+use a6plan_tests::pages::source::functions_in;
 use a6plan_tests::plain::plan::Field;
 use a6plan_tests::tree::text_of;
 use std::collections::BTreeMap;
@@ -39,11 +41,28 @@ fn exported(parameter: &str) -> Vec<String> {
     types.iter().map(|kind| kind.to_string()).collect()
 }
 
+/// The file of the exports, and what stands before the name of one.
+const EXPORTS: (&str, &str) = ("crates/a6plan_c/src/lib.rt", "\npub extern \"C\" fn ");
+
 #[test]
 fn the_header_declares_what_is_exported() {
-    let exported = functions("crates/a6plan/src/lib.rt", "\npub extern \"C\" fn ", exported);
+    let exported = functions(EXPORTS.0, EXPORTS.1, exported);
     assert_eq!(functions("include/a6plan.h", "\nuint32_t ", declared), exported);
     assert!(exported.len() >= 12 && exported.keys().all(|name| name.starts_with("a6plan_")), "{exported:?}");
+}
+
+/// An export has the name, the parameters and the clauses of a public function of `a6plan`, word for word, and there is one
+/// for each.
+#[test]
+fn an_export_promises_what_the_library_does() {
+    let library = "crates/a6plan/src/lib.rt";
+    let whole = |parameter: &str| vec![parameter.to_string()];
+    assert_eq!(functions(EXPORTS.0, EXPORTS.1, whole), functions(library, "\npub fn ", whole));
+    let promises = |file: &str| -> BTreeMap<String, String> {
+        functions_in("", &text_of(file)).into_iter().map(|function| (function.name, function.contract)).collect()
+    };
+    assert_eq!(promises(EXPORTS.0), promises(library));
+    assert!(promises(library).values().all(|contract| !contract.is_empty()));
 }
 
 #[test]

@@ -1,4 +1,4 @@
-// The C interface: each function takes slices and numbers, asks nothing of its caller, and returns the number of 01 (What comes back).
+// What the C interface exports (the crate `a6plan_c`): each public function takes slices and numbers, asks nothing of its caller, and returns the number of 01 (What comes back).
 #![tactic(auto)]
 
 ghost use Rattle.std.specs.Prelude.{◌≡◌, true, false, ◌≤◌, length};
@@ -30,8 +30,7 @@ ghost use Rattle.a6plan.specs.Keeping.{cleared_if, kept_for};
 const VALUE: usize = 273;
 
 // The standard form of a name in a 255-octet output; figures: its length and 0.
-#[unsafe(no_mangle)]
-pub extern "C" fn a6plan_standard(name: &[u8], out: &mut [u8], figures: &mut [u32]) -> u32
+pub fn a6plan_standard(name: &[u8], out: &mut [u8], figures: &mut [u32]) -> u32
     ensures number { result ≡ exported_number of_name (length figures.old) (standard_number name.now (length out.old)) }
     ensures output { out.new ≡ out_by result (standard_of name.now) (length out.old) }
     ensures figured { figures.new ≡ exported_figures result (standard_answer name.now (length out.old)) (length figures.old) }
@@ -40,8 +39,7 @@ pub extern "C" fn a6plan_standard(name: &[u8], out: &mut [u8], figures: &mut [u3
 }
 
 // The value that A6 data stands for, in 273 octets; all zero on a refusal.
-#[unsafe(no_mangle)]
-pub extern "C" fn a6plan_read(rdata: &[u8], value: &mut [u8]) -> u32
+pub fn a6plan_read(rdata: &[u8], value: &mut [u8]) -> u32
     ensures number { result ≡ exported_read_number (length value.old) (read_number rdata.now) }
     ensures valued { value.new ≡ out_by result (value_octets (value_of rdata.now)) (length value.old) }
 {
@@ -49,8 +47,7 @@ pub extern "C" fn a6plan_read(rdata: &[u8], value: &mut [u8]) -> u32
 }
 
 // The A6 data of a value of 273 octets, with zeros after it; figures: the octets written and 0.
-#[unsafe(no_mangle)]
-pub extern "C" fn a6plan_write(value: &[u8], out: &mut [u8], figures: &mut [u32]) -> u32
+pub fn a6plan_write(value: &[u8], out: &mut [u8], figures: &mut [u32]) -> u32
     ensures number { result ≡ exported_write_number (length value.now) (length figures.old) (write_number (value_in value.now) (length out.old)) }
     ensures output { out.new ≡ out_by result (data_of (value_in value.now)) (length out.old) }
     ensures figured { figures.new ≡ exported_figures result (write_answer (value_in value.now) (length out.old)) (length figures.old) }
@@ -59,8 +56,7 @@ pub extern "C" fn a6plan_write(value: &[u8], out: &mut [u8], figures: &mut [u32]
 }
 
 // The value that data of the 1998 layout stands for, in 273 octets; all zero on a refusal.
-#[unsafe(no_mangle)]
-pub extern "C" fn a6plan_read_1998(rdata: &[u8], value: &mut [u8]) -> u32
+pub fn a6plan_read_1998(rdata: &[u8], value: &mut [u8]) -> u32
     ensures number { result ≡ exported_read_number (length value.old) (draft_number rdata.now) }
     ensures valued { value.new ≡ out_by result (value_octets (draft_value rdata.now)) (length value.old) }
 {
@@ -68,8 +64,7 @@ pub extern "C" fn a6plan_read_1998(rdata: &[u8], value: &mut [u8]) -> u32
 }
 
 // The data of a value of 273 octets in the 1998 layout, with zeros after it; figures: the octets written and 0.
-#[unsafe(no_mangle)]
-pub extern "C" fn a6plan_write_1998(value: &[u8], out: &mut [u8], figures: &mut [u32]) -> u32
+pub fn a6plan_write_1998(value: &[u8], out: &mut [u8], figures: &mut [u32]) -> u32
     ensures number { result ≡ exported_write_number (length value.now) (length figures.old) (draft_write_number (value_in value.now) (length out.old)) }
     ensures output { out.new ≡ out_by result (draft_data (value_in value.now)) (length out.old) }
     ensures figured { figures.new ≡ exported_figures result (draft_answer (value_in value.now) (length out.old)) (length figures.old) }
@@ -79,8 +74,7 @@ pub extern "C" fn a6plan_write_1998(value: &[u8], out: &mut [u8], figures: &mut 
 
 // Whether a table is in order: 0, or 1, 2 or 3; 5 for one in order where the figures are not two. figures: for 2 and 3 the index of the record and the
 // number of its field, else 0 and 0.
-#[unsafe(no_mangle)]
-pub extern "C" fn a6plan_check(table: &[u8], figures: &mut [u32]) -> u32
+pub fn a6plan_check(table: &[u8], figures: &mut [u32]) -> u32
     ensures number { result ≡ exported_number of_check (length figures.old) (check_of table.now) }
     ensures figured { figures.new ≡ placed_figures (fault_figures (fault_in table.now)) (length figures.old) }
 {
@@ -91,8 +85,7 @@ pub extern "C" fn a6plan_check(table: &[u8], figures: &mut [u32]) -> u32
 }
 
 // The part of the table that the owner of a record takes; figures: where it starts and its length, both 0 for the empty part.
-#[unsafe(no_mangle)]
-pub extern "C" fn a6plan_owner(table: &[u8], index: usize, figures: &mut [u32]) -> u32
+pub fn a6plan_owner(table: &[u8], index: usize, figures: &mut [u32]) -> u32
     ensures number { result ≡ exported_number of_part (length figures.old) 0 }
     ensures figured { figures.new ≡ exported_figures result (part_answer (owner_part table.now index)) (length figures.old) }
 {
@@ -109,8 +102,7 @@ pub extern "C" fn a6plan_owner(table: &[u8], index: usize, figures: &mut [u32]) 
 
 // The addresses of a name in ascending order, sixteen octets each, then zeros; at the place of each, in the list of TTLs, how long it lives,
 // then zeros; figures: their count, the work, and for 2 and 3 the index of the record and its field.
-#[unsafe(no_mangle)]
-pub extern "C" fn a6plan_lookup(
+pub fn a6plan_lookup(
     table: &[u8],
     name: &[u8],
     limit: u32,
@@ -129,8 +121,7 @@ pub extern "C" fn a6plan_lookup(
 }
 
 // The name where the rewriting of an address's reverse name ends, then zeros; figures: its length, the number of rewrites, and for 2 and 3 the index of the record and its field.
-#[unsafe(no_mangle)]
-pub extern "C" fn a6plan_reverse(
+pub fn a6plan_reverse(
     table: &[u8],
     address: &[u8],
     limit: u8,
@@ -146,13 +137,7 @@ pub extern "C" fn a6plan_reverse(
 }
 
 // The table with a name folded, then zeros; figures: how many records, 0, and for 2 and 3 the index of the record at fault and its field.
-#[unsafe(no_mangle)]
-pub extern "C" fn a6plan_collapse(
-    table: &[u8],
-    name: &[u8],
-    out: &mut [u8],
-    figures: &mut [u32],
-) -> u32
+pub fn a6plan_collapse(table: &[u8], name: &[u8], out: &mut [u8], figures: &mut [u32]) -> u32
     ensures number { result ≡ exported_number of_table (length figures.old) (number_of table.now name.now (length out.old)) }
     ensures output { out.new ≡ out_by result (flat (fold_of name.now table.now)) (length out.old) }
     ensures figured { figures.new ≡ placed_figures (reply_figures (replying table.now (collapse_answer table.now name.now (length out.old)))) (length figures.old) }
@@ -162,8 +147,7 @@ pub extern "C" fn a6plan_collapse(
 }
 
 // The line of an A6 record, then zeros; figures: the octets of the line, with its octet 10, and 0.
-#[unsafe(no_mangle)]
-pub extern "C" fn a6plan_write_line(row: &[u8], out: &mut [u8], figures: &mut [u32]) -> u32
+pub fn a6plan_write_line(row: &[u8], out: &mut [u8], figures: &mut [u32]) -> u32
     ensures number { result ≡ exported_number of_line (length figures.old) (write_line_number row.now (length out.old)) }
     ensures output { out.new ≡ out_by result (line_of row.now) (length out.old) }
     ensures figured { figures.new ≡ exported_figures result (write_line_answer row.now (length out.old)) (length figures.old) }
@@ -172,8 +156,7 @@ pub extern "C" fn a6plan_write_line(row: &[u8], out: &mut [u8], figures: &mut [u
 }
 
 // The record of a line, then zeros; figures: 1 and 0.
-#[unsafe(no_mangle)]
-pub extern "C" fn a6plan_read_line(line: &[u8], out: &mut [u8], figures: &mut [u32]) -> u32
+pub fn a6plan_read_line(line: &[u8], out: &mut [u8], figures: &mut [u32]) -> u32
     ensures number { result ≡ exported_number of_line (length figures.old) (read_line_number line.now (length out.old)) }
     ensures output { out.new ≡ out_by result (record_in line.now) (length out.old) }
     ensures figured { figures.new ≡ exported_figures result (read_line_answer line.now (length out.old)) (length figures.old) }

@@ -1,7 +1,7 @@
 //! Reads what the pages need of the sources: imports, definitions and laws with their comments, public functions with
 //! their contracts. It goes by the layout that `rt fmt` gives.
 
-use crate::tree::text_of;
+use crate::tree::{crates, is_exporting, repository, text_of};
 use std::collections::BTreeSet;
 
 /// An import of a module of one of our crates.
@@ -29,12 +29,13 @@ impl Import {
     }
 }
 
-/// The imports of our own modules, in a file of code or of logic: `use Rattle·CRATE.FOLDER.MODULE.{NAMES}`, with
-/// `·FOLDER` after the crate where the file is of the same crate, or `as ALIAS` in place of the names.
+/// The imports of our own modules, in a file of code or of logic: `use Rattle.CRATE.FOLDER.MODULE.{NAMES}`, or `as ALIAS`
+/// in place of the names; CRATE may be the file's own, and one that crates.txt does not list is the kit's.
 pub fn imports(text: &str) -> Vec<Import> {
+    let ours = crates();
     let text = format!("\n{}", text.replace("\nghost use ", "\nuse "));
     let import = |part: &str| {
-        let part = part.strip_prefix("Rattle·")?;
+        let part = part.strip_prefix("Rattle.")?;
         let end = part.find(['}', '\n']).unwrap_or(part.len());
         let end = if part[..end].contains('{') { part.find('}')? } else { end };
         let (path, names, alias) = match part[..end].split_once(".{") {
@@ -46,7 +47,9 @@ pub fn imports(text: &str) -> Vec<Import> {
         };
         let (of, rest) = path.split_once('.')?;
         let (folder, module) = rest.split_once('.')?;
-        let of = of.split('·').next()?;
+        if !ours.iter().any(|name| name == of) {
+            return None;
+        }
         let names = names.split(',').map(str::trim).filter(|name| !name.is_empty()).map(str::to_owned).collect();
         Some(Import { of: of.to_owned(), folder: folder.to_owned(), module: module.to_owned(), names, alias })
     };
@@ -190,9 +193,10 @@ impl Function {
 }
 
 /// The files of a library that hold its public functions, by their modules: its root, and each `pub mod` of it but `inside`.
+/// A static library has none: it exports what a library promises.
 pub fn public_files(of: &str) -> Vec<(String, String)> {
     let file = |module: &str| format!("crates/{of}/src/{module}.rt");
-    if !crate::tree::repository().join(file("lib")).exists() {
+    if is_exporting(of) || !repository().join(file("lib")).exists() {
         return Vec::new();
     }
     let text = text_of(&file("lib"));
@@ -220,8 +224,7 @@ pub fn functions_in(module: &str, text: &str) -> Vec<Function> {
     let mut comment = String::new();
     let mut lines = text.lines();
     while let Some(line) = lines.next() {
-        let head = line.strip_prefix("pub fn ").or_else(|| line.strip_prefix("pub extern \"C\" fn "));
-        if let Some(head) = head {
+        if let Some(head) = line.strip_prefix("pub fn ").or_else(|| line.strip_prefix("pub extern \"C\" fn ")) {
             let name = head.split(['(', '<']).next().expect("a name").to_owned();
             let rest: Vec<&str> = lines.by_ref().take_while(|line| *line != "{").collect();
             let begins = |line: &&str| ["requires ", "ensures "].iter().any(|word| line.trim().starts_with(word));
