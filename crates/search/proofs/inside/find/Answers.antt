@@ -2,12 +2,10 @@
 use Prim.Native.Nat.{ℕ, suc, ◌+◌, ◌*◌, ◌/◌, ◌<◌}
 use mathlib.Core.Path.{◌≡◌, ap, sym, ◌∙◌}
 use Rattle.std.proofs.Common.{◌≢◌}
-use mathlib.Core.List.{List}
 use native.Mathlib.Omega.{arith}
 use lib.ListN.{length, get_or}
 use borrow.Author.Tests.{eq-eqb, ne_eqb}
 use Rattle.octets.specs.Octets.{blank}
-use Rattle.octets.specs.declared.Answer.{Answer}
 use Rattle.octets.specs.Answers.{refusal}
 use Rattle.octets.proofs.AnswerLaws.{not_nought, refused_answer, refused_out}
 use Rattle.chains.specs.Graph.{Graph, max_ttl}
