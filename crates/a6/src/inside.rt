@@ -15,7 +15,7 @@ pub const LONGEST: u8 = 128;
 
 // What a reader's tests say: the number, and on 0 the prefix length, where the octets of the address begin that it does not fill, where the name begins,
 // and whether the name is in standard form already.
-#[derive(Drop)]
+#[derive(Clone, Copy)]
 pub struct Found {
     pub number: u8,
     pub prefix: u8,

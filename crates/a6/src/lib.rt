@@ -6,7 +6,7 @@ ghost use Rattle.a6.specs.Read.{read_of};
 ghost use Rattle.a6.specs.Write.{write_answer, write_out};
 
 // What A6 data says: the prefix length L, sixteen address octets whose first L bits are zero, and the prefix name, none at L = 0.
-#[derive(Drop)]
+#[derive(Clone, Copy)]
 pub struct Value {
     pub prefix: u8,
     pub address: [u8; 16],
@@ -14,7 +14,7 @@ pub struct Value {
 }
 
 // What a reader answers: 0 and the value, or another number and a value of nothing but zeros.
-#[derive(Drop)]
+#[derive(Clone, Copy)]
 pub struct Reading {
     pub number: u8,
     pub value: Value,

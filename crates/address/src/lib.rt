@@ -7,7 +7,7 @@ ghost use Rattle.address.specs.Picture.{mix};
 ghost use Rattle.address.specs.Order.{order_of};
 
 // How one address stands to another in ascending order.
-#[derive(Drop)]
+#[derive(Clone, Copy)]
 pub enum Order {
     Before,
     Same,

@@ -12,7 +12,7 @@ pub fn low(x: u8, k: usize) -> u8
 }
 
 // Bits on their way into an octet: where the octet goes, how many bits it has, and their value.
-#[derive(Drop)]
+#[derive(Clone, Copy)]
 pub struct Packer {
     pub to: usize,
     pub have: usize,

@@ -205,9 +205,9 @@ module _ {N : Type 0} (g : Graph N) (x : N) (h : Graph N) (sixteen : (i : ℕ) �
     fold_keeps n a = (ahead, back)
       where
         ahead : Spells g n a → Spells h n a
-        ahead ([] , c , z , e) = elim c [ ]
+        ahead ([], c, z, e) = elim c [ ]
         ahead (i ∷ p, c, z, e) = found_spells g h n (i ∷ p) a e ((becomes i p c.1 z).alone n c.0).found
 
         back : Spells h n a → Spells g n a
-        back ([] , c , z , e) = elim c [ ]
+        back ([], c, z, e) = elim c [ ]
         back (j ∷ q, c, z, e) = found_spells h g n (j ∷ q) a e (before j q c.1 z n c.0).found

@@ -18,7 +18,7 @@ ghost use Rattle.collapse.specs.Running.{Fit, span_of, bucket_of, Linked, stored
 const MAX_RECORDS: usize = 1024;
 
 // The shortest record that refers to a name, 255 for none, and the longest unfinished record of it, 0 for none.
-#[derive(Drop)]
+#[derive(Clone, Copy)]
 pub struct Span {
     pub shortest: u8,
     pub longest: u8,

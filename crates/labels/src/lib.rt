@@ -7,7 +7,7 @@ ghost use Rattle.labels.specs.Answers.{scanned, unread};
 ghost use Rattle.labels.specs.Steps.{step_of, broken, still_apart};
 
 // What a scan finds: 0, 11 or 12 (01, What comes back); on 0 the octets that the name takes, and whether it is in standard form already.
-#[derive(Drop)]
+#[derive(Clone, Copy)]
 pub struct Scanned {
     pub number: u8,
     pub used: usize,
@@ -45,7 +45,7 @@ pub fn scan(s: &[u8]) -> Scanned
 }
 
 // What one label gives: its number, where it ends, and the bits of its run so far.
-#[derive(Drop)]
+#[derive(Clone, Copy)]
 pub struct Step {
     pub number: u8,
     pub end: usize,

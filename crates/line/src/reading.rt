@@ -11,7 +11,7 @@ ghost use Rattle.line.specs.Walk.{not_blank, word_at, word_end, passed, worse};
 ghost use Rattle.line.specs.Walked.{NumberAt, AddressAt, NameAt, LivedAt, RestAt, ReadAt};
 
 // What is read of a decimal: the number that the word earns; where that is not 20, its value, one more than the bound where it is over it, and the place after it.
-#[derive(Drop)]
+#[derive(Clone, Copy)]
 pub struct Number {
     pub number: u8,
     pub value: u64,
@@ -19,7 +19,7 @@ pub struct Number {
 }
 
 // What is read of an address: the number that the word earns; where that is 0, the address, and the place after the word.
-#[derive(Drop)]
+#[derive(Clone, Copy)]
 pub struct Address {
     pub number: u8,
     pub address: [u8; 16],
@@ -27,7 +27,7 @@ pub struct Address {
 }
 
 // What is read of the TTL and the type: the number that they earn; where that is not 20, the TTL, and the place after the type.
-#[derive(Drop)]
+#[derive(Clone, Copy)]
 pub struct Lived {
     pub number: u8,
     pub ttl: u32,
@@ -35,7 +35,7 @@ pub struct Lived {
 }
 
 // What is read of the address and the target: the number that they earn; where that is 0, both.
-#[derive(Drop)]
+#[derive(Clone, Copy)]
 pub struct Rest {
     pub number: u8,
     pub address: [u8; 16],
@@ -43,7 +43,7 @@ pub struct Rest {
 }
 
 // What is read of a line without its octet 10: the number that its words earn; where that is 0, the fields.
-#[derive(Drop)]
+#[derive(Clone, Copy)]
 pub struct Read {
     pub number: u8,
     pub fields: plan::inside::Fields,

@@ -12,7 +12,7 @@ ghost use Rattle.bits.specs.Packing.{Clean};
 ghost use Rattle.names.specs.Merge.{Begins, Moved, Ran};
 
 // A name by value: its octets with zeros after them, and its length; length 0 holds no name (01, A6 data).
-#[derive(Drop)]
+#[derive(Clone, Copy)]
 pub struct Name {
     pub octets: [u8; 255],
     pub length: u8,
@@ -87,14 +87,14 @@ pub fn hold(name: &[u8]) -> Name
 }
 
 // Where the next label is read, and where the next octet is written.
-#[derive(Drop)]
+#[derive(Clone, Copy)]
 pub struct Place {
     pub at: usize,
     pub to: usize,
 }
 
 // Where a run ended, and what of it is packed.
-#[derive(Drop)]
+#[derive(Clone, Copy)]
 pub struct Run {
     pub end: usize,
     pub packer: bits::inside::Packer,

@@ -13,7 +13,7 @@ ghost use Rattle.nametext.specs.Reading.{octets_formed, octets_in, octets_ranged
 ghost use Rattle.nametext.specs.Places.{Dot, Stands, ordinary_part, bit_part, part_of, Quartered, run_size, tallied_word, tallied_bits, tallied, concluded, Low, rest_of, encode_rest, Standing, Filled, Ran, Moved};
 
 // What is read of a name: its number, 0, 20, 21 or 22, the name in standard form, none where the number is not 0, and the place after its text.
-#[derive(Drop)]
+#[derive(Clone, Copy)]
 pub struct Named {
     pub number: u8,
     pub name: names::Name,
@@ -21,14 +21,14 @@ pub struct Named {
 }
 
 // What stands at a place of an ordinary label's text: how many octets it takes, none where it has no form, and its value.
-#[derive(Drop)]
+#[derive(Clone, Copy)]
 pub struct Octet {
     pub size: usize,
     pub value: usize,
 }
 
 // What a part of the text is as a label: its number, 0, 20 or 21; whether it is a bit label; how many octets or bits it holds.
-#[derive(Drop)]
+#[derive(Clone, Copy)]
 pub struct Part {
     pub number: u8,
     pub bits: bool,
@@ -36,14 +36,14 @@ pub struct Part {
 }
 
 // A number as four times a whole and a rest.
-#[derive(Drop)]
+#[derive(Clone, Copy)]
 pub struct Quarters {
     pub whole: usize,
     pub rest: usize,
 }
 
 // What is known of a name after some of its labels: its number, 0, 21 or 22; the octets of the labels before the run at hand; the bits of that run.
-#[derive(Drop)]
+#[derive(Clone, Copy)]
 pub struct Tally {
     pub number: u8,
     pub size: usize,

@@ -16,7 +16,7 @@ const NAMES: usize = 2048;
 const BUCKETS: usize = 4096;
 
 // The number of a name that was met, and how many names the list has then.
-#[derive(Drop)]
+#[derive(Clone, Copy)]
 pub struct Met {
     pub number: u16,
     pub count: usize,

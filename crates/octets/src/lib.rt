@@ -7,7 +7,7 @@ ghost use Rattle.octets.specs.Answers.{refusal};
 
 // What an operation answers (01, What comes back): its number, 0 for done, and two figures that are 0 on a refusal.
 #[repr(C)]
-#[derive(Drop)]
+#[derive(Clone, Copy)]
 pub struct Answer {
     pub number: u8,
     pub count: u32,

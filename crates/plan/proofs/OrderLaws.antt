@@ -15,7 +15,7 @@ use Rattle.chains.proofs.ListLaws.{both_true}
 use Rattle.names.specs.Standard.{Same, same_name, in_standard_form}
 use Rattle.names.proofs.StandardLaws.{same_name_same, same_same_name}
 use Rattle.names.proofs.RoundLaws.{same_symmetric}
-use Rattle.plan.specs.First.{first, some}
+use Rattle.plan.specs.First.{some}
 use Rattle.plan.specs.Layout.{record_size, max_records, dname, type_of, is_dname, count_of, record_at, owner_at, owner_of}
 use Rattle.plan.specs.Records.{type_at}
 use Rattle.plan.specs.Check.{field_count, field_good, fault_of, faulty, first_fault, twin, repeats, first_repeat, Twins, Shared, missized, check_of, InOrder}

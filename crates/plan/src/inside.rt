@@ -37,7 +37,7 @@ pub const DNAME: u16 = 39;
 const CASELESS: usize = 0xDFDFDFDF;
 
 // What a table and a given name earn together, the place of the table's fault, and the name in standard form, none where it is malformed.
-#[derive(Drop)]
+#[derive(Clone, Copy)]
 pub struct Entered {
     pub number: u8,
     pub fault: Fault,
@@ -45,7 +45,7 @@ pub struct Entered {
 }
 
 // The fields of an A6 record; a target of length 0 where it has none (T-06).
-#[derive(Drop)]
+#[derive(Clone, Copy)]
 pub struct Fields {
     pub prefix: u8,
     pub address: [u8; 16],

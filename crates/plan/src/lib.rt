@@ -24,21 +24,21 @@ const FIELDS: u8 = 7;
 const OWNER_FIELD: u8 = 4;
 
 // The place of a table's fault (T-04): the index of the record, and the number of its field. Both are 0 where there is no such place.
-#[derive(Drop)]
+#[derive(Clone, Copy)]
 pub struct Fault {
     pub index: u32,
     pub field: u8,
 }
 
 // What an operation on a table replies: its answer, and beside it the place of the table's fault, for 2 and 3.
-#[derive(Drop)]
+#[derive(Clone, Copy)]
 pub struct Reply {
     pub answer: octets::Answer,
     pub fault: Fault,
 }
 
 // A part of a table: where it starts and how many octets it has.
-#[derive(Drop)]
+#[derive(Clone, Copy)]
 pub struct Part {
     pub offset: usize,
     pub length: usize,

@@ -12,7 +12,7 @@ use Rattle.names.specs.Standard.{Unit, units_of}
 use Rattle.plan.specs.Layout.{is_dname, count_of, record_at, owner_at, target_at}
 use Rattle.rewriting.specs.Rewrite.{below_of}
 use Rattle.rewriting.proofs.ApplyLaws.{below_most}
-use Rattle.reverse.specs.Walk.{Rule, Due, none, due, better, due_from, due_of}
+use Rattle.reverse.specs.Walk.{Rule, Due, none, better, due_from, due_of}
 use Rattle.rewriting.specs.Spots.{units_at}
 use Rattle.chains.specs.Lists.{up_to}
 use Rattle.reverse.specs.Answers.{rule_of}

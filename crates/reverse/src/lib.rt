@@ -36,7 +36,7 @@ pub fn lookup(table: &[u8], address: &[u8], limit: u8, out: &mut [u8]) -> plan::
 }
 
 // What is known before the walk: the number that is earned, and the place of the table's fault.
-#[derive(Drop)]
+#[derive(Clone, Copy)]
 pub struct Begun {
     pub number: u8,
     pub fault: plan::Fault,
@@ -105,7 +105,7 @@ fn walk(table: &[u8], name: &[u8], limit: u8, done: u8, out: &mut [u8]) -> octet
 }
 
 // A DNAME that applies: how many units of the name are below its owner, and its index; 0 units for none.
-#[derive(Drop)]
+#[derive(Clone, Copy)]
 pub struct Best {
     pub below: usize,
     pub index: usize,

@@ -9,14 +9,14 @@ ghost use Rattle.rewriting.specs.Rewrite.{below_of, rewrite_of};
 ghost use Rattle.rewriting.specs.Splice.{spliced_length, spliced_out, joined_length, joined_out};
 
 // One label of a name: where it ends, and how many units it is.
-#[derive(Drop)]
+#[derive(Clone, Copy)]
 pub struct Turn {
     pub end: usize,
     pub units: usize,
 }
 
 // A unit's place in a name: where its label begins, the units of the label before it, and the label's end and units.
-#[derive(Drop)]
+#[derive(Clone, Copy)]
 pub struct Spot {
     pub at: usize,
     pub left: usize,
@@ -25,7 +25,7 @@ pub struct Spot {
 }
 
 // The bits that a name begins with: where they begin, how many they are, and where the label ends; zeros for another label.
-#[derive(Drop)]
+#[derive(Clone, Copy)]
 pub struct Front {
     pub from: usize,
     pub bits: usize,

@@ -29,7 +29,7 @@ pub const LOWS: usize = 2 * RECORDS;
 const MAX_TTL: u32 = 2147483647;
 
 // An address by its first and its last 64 bits.
-#[derive(Drop)]
+#[derive(Clone, Copy)]
 struct Halves {
     high: u64,
     low: u64,

@@ -11,7 +11,7 @@ pub lay-requires : goal.lay-requires
 lay-requires c = (search rules, search rules, omega arith)
 
 pub returns : goal.returns
-returns c = 
+returns c =
     let v = c.args.value in
     let long : length v.address ≡ 16 = search rules in
     let d = data_laid v (omega (arith, long)) in

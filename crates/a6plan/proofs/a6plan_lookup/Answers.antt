@@ -7,7 +7,7 @@ use Rattle.a6plan.proofs.ExportLaws.{refuses_table, exported_out, reported}
 use Rattle.a6plan.proofs.a6plan_lookup.Goals as goal
 
 pub returns : goal.returns
-returns c = 
+returns c =
     let t = c.report in
     let o = c.lookup-reply in
     let a = c.args in

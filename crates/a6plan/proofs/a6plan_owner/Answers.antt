@@ -40,7 +40,7 @@ pub figure-requires : goal.figure-requires
 figure-requires c = refuses_part
 
 pub returns : goal.returns
-returns c = 
+returns c =
     let f = c.figure in
     let n = length c.args.figures.now in record { number = f.ensures.number; figured = f.ensures.figured ∙ λ i. exported_figures f.result (answering (place (goal.at.returns c).After-owner_place-offset i) (long (goal.at.returns c).After-owner-part i)) n }
 

@@ -36,7 +36,7 @@ pub bounds-figures-1 : goal.bounds-figures-1
 bounds-figures-1 c = simp length-set (omega (arith, two (goal.at.bounds-figures-1 c).After-exported-number c.if-number-ne0.false))
 
 pub returns : goal.returns
-returns c = 
+returns c =
     let a = c.args.answer in
     let t = two (goal.at.returns c).After-exported-number c.if-number-ne0.false in
     let o = c.clear in record { number = sym c.if-number-ne0.false ∙ told (goal.at.returns c).After-exported-number; figured = figures_written a.count a.work o.new.list t ∙ full_out (a.count ∷ a.work ∷ []) (places (goal.at.returns c).After-exported-number) (sym t ∙ o.auto.list) }

@@ -1,4 +1,3 @@
-use Prim.Native.Nat.{◌-◌}
 use mathlib.Core.Path.{◌∙◌, sym}
 use native.Mathlib.Omega.{arith}
 use Rattle.address.proofs.OrderLaws.{order_on, order_below, order_above, order_ends_first, order_ends_last, order_ends_both}

@@ -37,13 +37,13 @@ held : (c : After-wide-n) → Enters (table c) (name c) (entry c) c.wide-n.resul
 held c = let l : length (entry c).name.octets ≡ 255 = search rules in enters _ _ (entry c) _ l c.enter-entered.ensures c.wide-n.ensures
 
 pub returns-then-number-ne0 : goal.returns-then-number-ne0
-returns-then-number-ne0 c = 
+returns-then-number-ne0 c =
     let n = (entry (goal.at.returns-then-number-ne0 c).After-wide-n).number in
     let f = (held (goal.at.returns-then-number-ne0 c).After-wide-n).earned in
     let e : n ≡ number_of (table (goal.at.returns-then-number-ne0 c).After-wide-n) (name (goal.at.returns-then-number-ne0 c).After-wide-n) (size (goal.at.returns-then-number-ne0 c).After-wide-n) = f ∙ sym (number_entry (table (goal.at.returns-then-number-ne0 c).After-wide-n) (name (goal.at.returns-then-number-ne0 c).After-wide-n) (size (goal.at.returns-then-number-ne0 c).After-wide-n) (λ h. c.if-number-ne0.true (f ∙ h))) in record { reply = replies (table (goal.at.returns-then-number-ne0 c).After-wide-n) (c.refuse.ensures.0 ∙ refused_answer n _ e c.if-number-ne0.true _ 0) (held (goal.at.returns-then-number-ne0 c).After-wide-n).placed; output = c.refuse.ensures.1 ∙ refused_out n _ e c.if-number-ne0.true _ (size (goal.at.returns-then-number-ne0 c).After-wide-n) }
 
 pub returns-then-out-ne0 : goal.returns-then-out-ne0
-returns-then-out-ne0 c = 
+returns-then-out-ne0 c =
     let e = sym (number_output (table (goal.at.returns-then-out-ne0 c).After-wide-n) (name (goal.at.returns-then-out-ne0 c).After-wide-n) (size (goal.at.returns-then-out-ne0 c).After-wide-n) (sym (held (goal.at.returns-then-out-ne0 c).After-wide-n).earned ∙ c.if-number-ne0.false) c.if-out-ne0.true) in record { reply = replies (table (goal.at.returns-then-out-ne0 c).After-wide-n) (c.refuse-then-out-ne0.ensures.0 ∙ refused_answer 5 _ e (not_nought 4) _ 0) (held (goal.at.returns-then-out-ne0 c).After-wide-n).placed; output = c.refuse-then-out-ne0.ensures.1 ∙ refused_out 5 _ e (not_nought 4) _ (size (goal.at.returns-then-out-ne0 c).After-wide-n) }
 
 pub slice_bounds-standard-end : goal.slice_bounds-standard-end
@@ -58,7 +58,7 @@ fold-requires c =
     (((held (goal.at.fold-requires c).After-wide-n).sound z).0, (held (goal.at.fold-requires c).After-wide-n).standing (small (goal.at.fold-requires c).After-wide-n) z, c.if-out-ne0.false)
 
 pub returns : goal.returns
-returns c = 
+returns c =
     let z = c.if-number-ne0.false in
     let w = ((held (goal.at.returns c).After-wide-n).sound z).1 in
     let p = (held (goal.at.returns c).After-wide-n).part z in

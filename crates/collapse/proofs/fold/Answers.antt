@@ -63,15 +63,18 @@ earns_none c =
     number_done (table c.before.before.before.before.before.before.before.before.before.before.before.before) (name c.before.before.before.before.before.before.before.before.before.before.before.before) (size c.before.before.before.before.before.before.before.before.before.before.before.before) (valid c.before.before.before.before.before.before.before.before.before.before.before.before) c.requires.2 (quiet record { before = c.before.before.before.before.before.before.before; type_inv = record { out = c.slice_known-1.given; name = c.shared_slice_known-2-1.given; table = c.shared_slice_known-1.given } }) (passes_not (size c.before.before.before.before.before.before.before.before.before.before.before.before) (fold_of (name c.before.before.before.before.before.before.before.before.before.before.before.before) (table c.before.before.before.before.before.before.before.before.before.before.before.before)) (fits c).0 (fits c).1)
 
 pub returns-then-shortest-longest : goal.returns-then-shortest-longest
-returns-then-shortest-longest c = 
+returns-then-shortest-longest c =
     record { answer = c.refuse.ensures.0 ∙ refused_answer 9 _ (sym (earns_nine (goal.at.returns-then-shortest-longest c).Then-shortest-longest)) (not_nought 8) _ 0; output = c.refuse.ensures.1 ∙ refused_out 9 _ (sym (earns_nine (goal.at.returns-then-shortest-longest c).Then-shortest-longest)) (not_nought 8) _ (size (goal.at.returns-then-shortest-longest c).Start) }
 
 pub returns-then-most-n : goal.returns-then-most-n
-returns-then-most-n c = 
+returns-then-most-n c =
     record { answer = c.refuse-then-most-n.ensures.0 ∙ refused_answer 7 _ (sym (earns_seven (goal.at.returns-then-most-n c).Then-most-n)) (not_nought 6) _ 0; output = c.refuse-then-most-n.ensures.1 ∙ ap blank (kept (goal.at.returns-then-most-n c).After-slice_known-2-1) ∙ refused_out 7 _ (sym (earns_seven (goal.at.returns-then-most-n c).Then-most-n)) (not_nought 6) _ (size (goal.at.returns-then-most-n c).Start) }
 
 pub returns : goal.returns
-returns c = 
+returns c =
     let p = c.put_all-n in
-    let k = p.ensures.all c.if-most-n.false in record { answer = ap (λ (v : ℕ). answering v 0) k.0 ∙ sym (accepted_answer (table (goal.at.returns c).Start) (name (goal.at.returns c).Start) (size (goal.at.returns c).Start) (earns_none (goal.at.returns c).Else-most-n)); output = stored_cleared c.args.out.now _ _ (fold_of (name (goal.at.returns c).Start) (table (goal.at.returns c).Start)) p.result (fold_whole (name (goal.at.returns c).Start) (table (goal.at.returns c).Start)) k.0 (fits (goal.at.returns c).Else-most-n).0 k.1 (kept (goal.at.returns c).After-slice_known-2-1) c.clear.ensures
-          ∙ sym (accepted_out (table (goal.at.returns c).Start) (name (goal.at.returns c).Start) (size (goal.at.returns c).Start) (earns_none (goal.at.returns c).Else-most-n)) }
+    let k = p.ensures.all c.if-most-n.false in record {
+      answer = ap (λ (v : ℕ). answering v 0) k.0 ∙ sym (accepted_answer (table (goal.at.returns c).Start) (name (goal.at.returns c).Start) (size (goal.at.returns c).Start) (earns_none (goal.at.returns c).Else-most-n));
+      output = stored_cleared c.args.out.now _ _ (fold_of (name (goal.at.returns c).Start) (table (goal.at.returns c).Start)) p.result (fold_whole (name (goal.at.returns c).Start) (table (goal.at.returns c).Start)) k.0 (fits (goal.at.returns c).Else-most-n).0 k.1 (kept (goal.at.returns c).After-slice_known-2-1) c.clear.ensures
+          ∙ sym (accepted_out (table (goal.at.returns c).Start) (name (goal.at.returns c).Start) (size (goal.at.returns c).Start) (earns_none (goal.at.returns c).Else-most-n));
+    }

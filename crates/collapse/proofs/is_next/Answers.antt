@@ -25,11 +25,10 @@ returns-then-prefix_of c =
     sym (continues_long a.r.now a.q.now (omega (arith, c.if-prefix_of.true, c.prefix_of.ensures, c.prefix_of-2.ensures)))
 
 pub equal-requires : goal.equal-requires
-equal-requires c =
-    (
-      ap in_standard_form (owner_is c) ∙ c.requires.1.good.owner.name,
-      ap in_standard_form (target_is c) ∙ (c.requires.0.good.target (targetless_on c.args.r.now (λ z. omega (arith, c.requires.2)))).name,
-    )
+equal-requires c = (
+  ap in_standard_form (owner_is c) ∙ c.requires.1.good.owner.name,
+  ap in_standard_form (target_is c) ∙ (c.requires.0.good.target (targetless_on c.args.r.now (λ z. omega (arith, c.requires.2)))).name,
+)
 
 pub returns : goal.returns
 returns c =

@@ -11,7 +11,7 @@ use Rattle.collapse.proofs.RunningLaws.{refers_leads, leads_some}
 use Rattle.collapse.proofs.is_referrer.Goals as goal
 
 pub is_named-requires : goal.is_named-requires
-is_named-requires c = 
+is_named-requires c =
     let w = c.requires in
     let e = c.target_slot.ensures in record { row_len = (w.0.whole, e.1); slot_value = (λ l. ap (λ (s : List ℕ). in_standard_form (name_in s)) e.0 ∙ (w.0.good.target (targetless_on _ (leads_some _ l))).name, w.1) }
 

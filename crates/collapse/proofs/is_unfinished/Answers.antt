@@ -10,7 +10,7 @@ use Rattle.collapse.proofs.RunningLaws.{unfinished_leads}
 use Rattle.collapse.proofs.is_unfinished.Goals as goal
 
 pub is_named-requires : goal.is_named-requires
-is_named-requires c = 
+is_named-requires c =
     let w = c.requires in
     let e = c.owner_slot.ensures in record { row_len = (w.0.whole, e.1); slot_value = (λ l. ap (λ (s : List ℕ). in_standard_form (name_in s)) e.0 ∙ w.0.good.owner.name, w.1) }
 

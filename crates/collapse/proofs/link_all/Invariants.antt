@@ -1,6 +1,6 @@
 -- `collapse::link_all` meets its contract: one record more at each turn, from the last to the first.
 use mathlib.Core.Path.{◌≡◌}
-use Prim.Native.Nat.{◌-◌, ◌≤◌}
+use Prim.Native.Nat.{◌≤◌}
 use lib.ListN.{length}
 use Rattle.plan.specs.Layout.{count_of}
 use Rattle.collapse.specs.Running.{Linked}

@@ -1,6 +1,5 @@
 use mathlib.Core.Path.{refl, sym, ◌∙◌}
 use native.Mathlib.Omega.{arith}
-use Prim.Native.Nat.{◌-◌}
 use Rattle.collapse.specs.Fold.{place_of}
 use Rattle.collapse.proofs.LinkLaws.{linked_start}
 use Rattle.collapse.proofs.RunningLaws.{count_start, stored_start, count_turn, stored_turn, put_all, put_over}
@@ -28,7 +27,7 @@ pub slice_bounds-put_place-end-in-loop-i : goal.slice_bounds-put_place-end-in-lo
 slice_bounds-put_place-end-in-loop-i c = sym c.loop-i.invariant.2.records
 
 pub put_place-n-requires : goal.put_place-n-requires
-put_place-n-requires c = 
+put_place-n-requires c =
     let l = c.loop-i in
     let w = c.requires in record { in_order = (w.0, w.1, l.invariant.2); i_bound = (omega (arith, l.invariant.1), omega (arith, c.if-most-n.false, w.2)) }
 

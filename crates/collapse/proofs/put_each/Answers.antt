@@ -1,6 +1,6 @@
 use mathlib.Core.Path.{◌≡◌, refl, sym, ap, ◌∙◌}
 use native.Mathlib.Omega.{arith}
-use Prim.Native.Nat.{ℕ, ◌+◌, ◌-◌, ◌≤◌, ◌<◌, min}
+use Prim.Native.Nat.{ℕ, ◌+◌, ◌≤◌, ◌<◌, min}
 use mathlib.Core.List.{List}
 use lib.ListN.{length, get_or}
 use Rattle.chains.specs.Lists.{up_to}
@@ -123,6 +123,6 @@ loop-j-preserved c =
     )
 
 pub returns : goal.returns
-returns c = 
+returns c =
     let l = c.loop-j in
     let e : min l.j (count_of (table (goal.at.returns c).Start)) ≡ count_of (table (goal.at.returns c).Start) = omega (arith, l.invariant.0) in record { value = rw (← e) l.invariant.4; out_after = rw (← e) l.invariant.5 }

@@ -27,11 +27,11 @@ is_next-requires c =
     (rw c.row.ensures.0 (o a.i w.1), rw c.row-2.ensures.0 (o a.j w.4), rw c.row.ensures.0 w.2)
 
 pub returns-then-not-is_next : goal.returns-then-not-is_next
-returns-then-not-is_next c = 
+returns-then-not-is_next c =
     let a = c.args in
     let e = made_off a.table.now (near (goal.at.returns-then-not-is_next c).After-row-2) a.j (sym (tested (goal.at.returns-then-not-is_next c).After-is_next) ∙ c.if-not-is_next.true) in record { value = rw e (omega arith); out_after = rw e (sym (stored_none a.out.now a.n)) }
 
 pub returns : goal.returns
-returns c = 
+returns c =
     let a = c.args in
     let e = made_on a.table.now (near (goal.at.returns c).After-row-2) a.j (sym (tested (goal.at.returns c).After-is_next) ∙ c.if-not-is_next.false) in record { value = rw e (omega arith); out_after = rw e (c.put_joined.ensures ∙ sym (stored_one_lem a.out.now a.n (joined_of (near (goal.at.returns c).After-row-2) (far (goal.at.returns c).After-row-2)))) }

@@ -23,12 +23,12 @@ put_each-requires c =
     (w.in_order.0, w.i_bound.0, (unfinished_is a.name.now (record_at a.table.now a.i) e).1, w.i_bound.1, w.in_order.2)
 
 pub returns-then-is_unfinished : goal.returns-then-is_unfinished
-returns-then-is_unfinished c = 
+returns-then-is_unfinished c =
     let a = c.args in
     let e = place_on a.name.now a.table.now a.i (sym (ap (unfinished a.name.now) c.row-row.ensures.0) ∙ sym c.is_unfinished.ensures ∙ c.if-is_unfinished.true) in record { value = rw e c.put_each.ensures.value; out_after = rw e c.put_each.ensures.out_after }
 
 pub returns : goal.returns
-returns c = 
+returns c =
     let a = c.args in
     let r = c.row-row.ensures.0 in
     let e = place_off a.name.now a.table.now a.i (sym (ap (unfinished a.name.now) r) ∙ sym c.is_unfinished.ensures ∙ c.if-is_unfinished.false) in record { value = rw e (omega arith); out_after = rw e (c.put.ensures ∙ ap (stored_one a.out.now a.n) r ∙ sym (stored_one_lem a.out.now a.n (record_at a.table.now a.i))) }

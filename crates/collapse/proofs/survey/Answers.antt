@@ -1,5 +1,4 @@
 use mathlib.Core.Path.{◌≡◌, refl, ap, ◌∙◌}
-use Prim.Native.Nat.{◌-◌}
 use native.Mathlib.Omega.{arith}
 use Rattle.plan.specs.Layout.{prefix_of, prefix_at, count_of}
 use Rattle.collapse.specs.Fold.{unfinished, refers}

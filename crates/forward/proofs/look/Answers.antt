@@ -21,7 +21,7 @@ use Rattle.forward.proofs.look.Goals.{After-count-n}
 use Rattle.forward.proofs.look.Goals as goal
 
 pub number-x-requires : goal.number-x-requires
-number-x-requires c = 
+number-x-requires c =
     let p = c.requires in
     let n = order_count c.args.table.now p.in_order.0 in record { in_order = p.in_order; table_in_bounds = (n, n) }
 
@@ -66,15 +66,18 @@ pub slice_bounds-find-end : goal.slice_bounds-find-end
 slice_bounds-find-end c = sym (length-take-le c.count-n.result c.set_owners.new.owners (rw c.count-n.ensures (filled_up (goal.at.slice_bounds-find-end c).After-count-n).owners_long))
 
 pub find-requires : goal.find-requires
-find-requires c = 
+find-requires c =
     let t = c.args.table.now in
-    let o = c.requires.in_order.0 in record { numbered = (
+    let o = c.requires.in_order.0 in record {
+      numbered = (
         rw c.count-n.ensures (read_numbered t _ _ o (filled_up (goal.at.find-requires c).After-count-n)),
         rw c.number-x.ensures.name (number_below t _ _ o (filled_up (goal.at.find-requires c).After-count-n) c.args.name.now),
-      ); out_len = c.requires.out_len }
+      );
+      out_len = c.requires.out_len;
+    }
 
 pub returns : goal.returns
-returns c = 
+returns c =
     let t = c.args.table.now in
     let o = c.requires.in_order.0 in
     let x = c.args.name.now in
@@ -86,6 +89,10 @@ returns c =
     let w = work_read t _ _ o full x in
     let a = addresses_read t _ _ o full x in
     let found = c.find.ensures in
-    let turned = rw (c.count-n.ensures, c.number-x.ensures.name) at found in record { value = turned.value ∙ sym (answer_like (graph_of t) h x y w a (number_of (graph_of t) x limit (size / 16)) ∙ ap (answer_of h y) (number_like (graph_of t) h x y w a limit (size / 16))); out_after = turned.out_after
-            ∙ sym (output_like (graph_of t) h x y w a (number_of (graph_of t) x limit (size / 16)) size ∙ ap (λ (k : ℕ). output_of h y k size) (number_like (graph_of t) h x y w a limit (size / 16))); lives_after = turned.lives_after
-            ∙ sym (lives_like (graph_of t) h x y w a (lifetime_read t _ _ o full x) (number_of (graph_of t) x limit (size / 16)) (size / 16) ∙ ap (λ (k : ℕ). lives_of h y k (size / 16)) (number_like (graph_of t) h x y w a limit (size / 16))) }
+    let turned = rw (c.count-n.ensures, c.number-x.ensures.name) at found in record {
+      value = turned.value ∙ sym (answer_like (graph_of t) h x y w a (number_of (graph_of t) x limit (size / 16)) ∙ ap (answer_of h y) (number_like (graph_of t) h x y w a limit (size / 16)));
+      out_after = turned.out_after
+          ∙ sym (output_like (graph_of t) h x y w a (number_of (graph_of t) x limit (size / 16)) size ∙ ap (λ (k : ℕ). output_of h y k size) (number_like (graph_of t) h x y w a limit (size / 16)));
+      lives_after = turned.lives_after
+          ∙ sym (lives_like (graph_of t) h x y w a (lifetime_read t _ _ o full x) (number_of (graph_of t) x limit (size / 16)) (size / 16) ∙ ap (λ (k : ℕ). lives_of h y k (size / 16)) (number_like (graph_of t) h x y w a limit (size / 16)));
+    }

@@ -71,14 +71,14 @@ fitting : (c : Else-is_misfit) → misfit (size record { before = c.before.befor
 fitting c = sym (misfit_is record { before = c.before.before; type_inv = record { ttls = c.slice_known-4-1.given; out = c.slice_known-3-1.given; name = c.shared_slice_known-2-1.given; table = c.shared_slice_known-1.given } }) ∙ c.if-is_misfit.false
 
 pub returns-then-number-ne0 : goal.returns-then-number-ne0
-returns-then-number-ne0 c = 
+returns-then-number-ne0 c =
     let t = c.if-number-ne0.true in
     let n = (entry (goal.at.returns-then-number-ne0 c).After-wide-length).number in
     let f = (held (goal.at.returns-then-number-ne0 c).After-wide-length).earned in
     let e : n ≡ number (goal.at.returns-then-number-ne0 c).After-wide-length = f ∙ sym (lookup_entry (table (goal.at.returns-then-number-ne0 c).After-wide-length) (name (goal.at.returns-then-number-ne0 c).After-wide-length) c.args.limit (size (goal.at.returns-then-number-ne0 c).After-wide-length) (room (goal.at.returns-then-number-ne0 c).After-wide-length) (λ h. t (f ∙ h))) in record { reply = replies (table (goal.at.returns-then-number-ne0 c).After-wide-length) (c.refused.ensures ∙ refused_answer n _ e t _ _) (held (goal.at.returns-then-number-ne0 c).After-wide-length).placed; output = (blanked (goal.at.returns-then-number-ne0 c).After-wide-length).zeros ∙ refused_out n _ e t _ (size (goal.at.returns-then-number-ne0 c).After-wide-length); lifetimes = (blanked (goal.at.returns-then-number-ne0 c).After-wide-length).noughts ∙ refused_out n _ e t _ (room (goal.at.returns-then-number-ne0 c).After-wide-length) }
 
 pub returns-then-is_misfit : goal.returns-then-is_misfit
-returns-then-is_misfit c = 
+returns-then-is_misfit c =
     let o = sym (held (goal.at.returns-then-is_misfit c).After-wide-length).earned ∙ c.if-number-ne0.false in
     let e = sym (lookup_misfit (table (goal.at.returns-then-is_misfit c).After-wide-length) (name (goal.at.returns-then-is_misfit c).After-wide-length) c.args.limit (size (goal.at.returns-then-is_misfit c).After-wide-length) (room (goal.at.returns-then-is_misfit c).After-wide-length) o (sym (misfit_is (goal.at.returns-then-is_misfit c).After-is_misfit) ∙ c.if-is_misfit.true)) in record { reply = replies (table (goal.at.returns-then-is_misfit c).After-wide-length) (c.refused-then-is_misfit.ensures ∙ refused_answer 5 _ e (not_nought 4) _ _) (held (goal.at.returns-then-is_misfit c).After-wide-length).placed; output = (blanked (goal.at.returns-then-is_misfit c).After-wide-length).zeros ∙ refused_out 5 _ e (not_nought 4) _ (size (goal.at.returns-then-is_misfit c).After-wide-length); lifetimes = (blanked (goal.at.returns-then-is_misfit c).After-wide-length).noughts ∙ refused_out 5 _ e (not_nought 4) _ (room (goal.at.returns-then-is_misfit c).After-wide-length) }
 
@@ -89,12 +89,12 @@ pub slice_bounds-look-end : goal.slice_bounds-look-end
 slice_bounds-look-end c = sym (length-take-le c.wide-length.result (entry (goal.at.slice_bounds-look-end c).After-wide-length).name.octets (held (goal.at.slice_bounds-look-end c).After-wide-length).fits)
 
 pub look-requires : goal.look-requires
-look-requires c = 
+look-requires c =
     let b = blanked (goal.at.look-requires c).After-wide-length in
     let f = misfit_not (size (goal.at.look-requires c).After-wide-length) (room (goal.at.look-requires c).After-wide-length) (fitting (goal.at.look-requires c).Else-is_misfit) in record { in_order = (((held (goal.at.look-requires c).After-wide-length).sound (accepted (goal.at.look-requires c).Else-is_misfit)).0, (held (goal.at.look-requires c).After-wide-length).standing (small (goal.at.look-requires c).After-wide-length) (accepted (goal.at.look-requires c).Else-is_misfit)); out_len = (omega (arith, f, b.long), b.zeros ∙ ap blank (sym b.long), omega (arith, f, b.long, b.lasting), b.noughts ∙ ap blank (sym b.lasting)) }
 
 pub returns : goal.returns
-returns c = 
+returns c =
     let a = c.args in
     let o = sym (held (goal.at.returns c).After-wide-length).earned ∙ accepted (goal.at.returns c).Else-is_misfit in
     let n = (misfit_not (size (goal.at.returns c).After-wide-length) (room (goal.at.returns c).After-wide-length) (fitting (goal.at.returns c).Else-is_misfit)).1 in

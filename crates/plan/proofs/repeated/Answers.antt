@@ -11,7 +11,7 @@ returns-then-kind-ne-DNAME c =
     sym (repeats_other a.table.now a.j (type_not (record_at a.table.now a.j) (λ h. c.if-kind-ne-DNAME.true (c.kind.ensures ∙ h))))
 
 pub has_twin-requires : goal.has_twin-requires
-has_twin-requires c = 
+has_twin-requires c =
     let a = c.args in record { ready = c.requires; j_value = type_is (record_at a.table.now a.j) (sym c.kind.ensures ∙ c.if-kind-ne-DNAME.false) }
 
 pub returns-then-has_mark : goal.returns-then-has_mark

@@ -84,11 +84,11 @@ pub overflow_cast-result : goal.overflow_cast-result
 overflow_cast-result t c = omega (arith, wide t (goal.at.overflow_cast-result t c).Start)
 
 pub returns-then-below-eq0 : goal.returns-then-below-eq0
-returns-then-below-eq0 t c = 
+returns-then-below-eq0 t c =
     let r = reply_ended (walking t (goal.at.returns-then-below-eq0 t c).After-choose-b) c.args.limit c.args.done (small_name t (goal.at.returns-then-below-eq0 t c).After-choose-b) c.if-below-eq0.true in record { value = r.0; out_after = name_copied c.args.out.now _ (name t (goal.at.returns-then-below-eq0 t c).Start) (given t (goal.at.returns-then-below-eq0 t c).Start).1.1 (wide t (goal.at.returns-then-below-eq0 t c).Start) c.copy.ensures ∙ r.1 }
 
 pub returns-then-limit-eq0 : goal.returns-then-limit-eq0
-returns-then-limit-eq0 t c = 
+returns-then-limit-eq0 t c =
     let r = reply_out (walking t (goal.at.returns-then-limit-eq0 t c).After-choose-b) c.args.limit c.args.done c.if-below-eq0.false c.if-limit-eq0.true in record { value = c.refused.ensures ∙ r.0; out_after = (given t (goal.at.returns-then-limit-eq0 t c).Start).1.1 ∙ r.1 }
 
 pub target-requires : goal.target-requires
@@ -96,11 +96,11 @@ target-requires t c = (applies t (goal.at.target-requires t c).Else-below-eq0).0
 
 pub splice-n-requires : goal.splice-n-requires
 unfolding blank
-splice-n-requires t c = 
+splice-n-requires t c =
     record { standing = ((given t (goal.at.splice-n-requires t c).Start).0.1, rw c.target.ensures (stands t (goal.at.splice-n-requires t c).Else-below-eq0)); k_nonzero = (omega (arith, c.if-below-eq0.false), c.choose-b.ensures.within, refl) }
 
 pub returns-then-n-eq0 : goal.returns-then-n-eq0
-returns-then-n-eq0 t c = 
+returns-then-n-eq0 t c =
     let r = reply_large (walking t (goal.at.returns-then-n-eq0 t c).After-choose-b) c.args.limit c.args.done c.if-below-eq0.false (more t (goal.at.returns-then-n-eq0 t c).After-splice-n) c.splice-n.result (spliced t (goal.at.returns-then-n-eq0 t c).After-splice-n).0 c.if-n-eq0.true in record { value = c.refused-then-n-eq0.ensures ∙ r.0; out_after = (given t (goal.at.returns-then-n-eq0 t c).Start).1.1 ∙ r.1 }
 
 pub slice_bounds-next-end : goal.slice_bounds-next-end
@@ -123,6 +123,6 @@ walk-requires t c =
     (omega (arith, g), (((given t (goal.at.walk-requires t c).Start).0.0, (goes_on t (goal.at.walk-requires t c).Else-n-eq0).standing), (omega (arith, (given t (goal.at.walk-requires t c).Start).1.0, g), (given t (goal.at.walk-requires t c).Start).1.1)))
 
 pub returns : goal.returns
-returns t c = 
+returns t c =
     let w = c.walk.ensures in
     let e = (goes_on t (goal.at.returns t c).Else-n-eq0).walk in record { value = w.value ∙ ap answer_for e; out_after = w.out_after ∙ ap (λ (y : End). out_for y 255) e }

@@ -38,18 +38,18 @@ sound : (c : Else-number-ne0) → (check_of (table record { before = c.before.be
 sound c = early_zero (table record { before = c.before.before; type_inv = record { out = c.slice_known-2-1.given; address = c.shared_slice_known-2-1.given; table = c.shared_slice_known-1.given } }) (address record { before = c.before.before; type_inv = record { out = c.slice_known-2-1.given; address = c.shared_slice_known-2-1.given; table = c.shared_slice_known-1.given } }) (room record { before = c.before.before; type_inv = record { out = c.slice_known-2-1.given; address = c.shared_slice_known-2-1.given; table = c.shared_slice_known-1.given } }) (sym (number_is record { before = c.before.before; type_inv = record { out = c.slice_known-2-1.given; address = c.shared_slice_known-2-1.given; table = c.shared_slice_known-1.given } }) ∙ c.if-number-ne0.false)
 
 pub returns-then-number-ne0 : goal.returns-then-number-ne0
-returns-then-number-ne0 c = 
+returns-then-number-ne0 c =
     let r = early (table (goal.at.returns-then-number-ne0 c).After-fault-1) (address (goal.at.returns-then-number-ne0 c).After-fault-1) c.args.limit (room (goal.at.returns-then-number-ne0 c).After-fault-1) c.early-begun.result.number (number_is (goal.at.returns-then-number-ne0 c).After-fault-1) c.if-number-ne0.true in record { reply = replies (table (goal.at.returns-then-number-ne0 c).After-fault-1) (c.refused.ensures ∙ r.0) c.early-begun.ensures.1; output = zeros (goal.at.returns-then-number-ne0 c).After-fault-1 ∙ r.1 }
 
 pub start-name-requires : goal.start-name-requires
 start-name-requires c = (sound c).1
 
 pub walk-requires : goal.walk-requires
-walk-requires c = 
+walk-requires c =
     record { in_order = ((sound (goal.at.walk-requires c).Else-number-ne0).0, rw c.start-name.ensures (start_standing (address (goal.at.walk-requires c).After-fault-1) (small (goal.at.walk-requires c).After-fault-1) (sound (goal.at.walk-requires c).Else-number-ne0).1)); done_bound = (omega (arith, c.ranges), zeros (goal.at.walk-requires c).After-fault-1 ∙ ap blank (sound (goal.at.walk-requires c).Else-number-ne0).2) }
 
 pub returns : goal.returns
-returns c = 
+returns c =
     let limit = c.args.limit in
     let f : walk_of limit 0 (rules_of (table (goal.at.returns c).After-fault-1)) (units_at c.start-name.result 0) ≡ end_of (table (goal.at.returns c).After-fault-1) (address (goal.at.returns c).After-fault-1) limit (room (goal.at.returns c).After-fault-1) =
     ap (λ (ys : List ℕ). walk_of limit 0 (rules_of (table (goal.at.returns c).After-fault-1)) (units_at ys 0)) c.start-name.ensures ∙ ap (walk_of limit 0 (rules_of (table (goal.at.returns c).After-fault-1))) (start_units (address (goal.at.returns c).After-fault-1) (small (goal.at.returns c).After-fault-1) (sound (goal.at.returns c).Else-number-ne0).1)

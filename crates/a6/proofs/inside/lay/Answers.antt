@@ -50,7 +50,7 @@ after : (c : After-larger-after) → c.larger-after.result ≡ max c.args.before
 after c = c.larger-after.ensures ∙ ap (max c.args.before) c.wide.ensures.0
 
 pub returns-then-wrong-ne0 : goal.returns-then-wrong-ne0
-returns-then-wrong-ne0 c = 
+returns-then-wrong-ne0 c =
     let k = c.value_number-wrong.result in
     let e : k ≡ number (goal.at.returns-then-wrong-ne0 c).Start = number_is (goal.at.returns-then-wrong-ne0 c).After-value_number-wrong ∙ sym (else_kept (value_number (value (goal.at.returns-then-wrong-ne0 c).Start)) _ (λ z. c.if-wrong-ne0.true (number_is (goal.at.returns-then-wrong-ne0 c).After-value_number-wrong ∙ z))) in record { value = c.refused.ensures ∙ refused_answer k _ e c.if-wrong-ne0.true (length (whole (goal.at.returns-then-wrong-ne0 c).Start)) 0; out_after = zeros (goal.at.returns-then-wrong-ne0 c).After-value_number-wrong ∙ refused_out k _ e c.if-wrong-ne0.true (whole (goal.at.returns-then-wrong-ne0 c).Start) (room (goal.at.returns-then-wrong-ne0 c).Start) }
 
@@ -63,7 +63,7 @@ put_data-requires c =
 
 pub returns : goal.returns
 unfolding octets_of
-returns c = 
+returns c =
     let p = c.put_data.ensures in
     let a = c.args in
     let k = c.clear.auto.out in

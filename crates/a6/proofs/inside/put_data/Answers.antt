@@ -29,7 +29,7 @@ long_too : (c : After-copy-2) → length c.copy-2.new.out ≡ room c.before.befo
 long_too c = let a = c.args in c.copy-2.auto.out ∙ length-set c.copy.new.out a.before a.prefix ∙ long record { before = c.before.before.before.before.before; type_inv = record { name = c.shared_slice_known-2-1.given; address = c.shared_slice_known-1.given } }
 
 pub returns-then-out-size : goal.returns-then-out-size
-returns-then-out-size c = 
+returns-then-out-size c =
     let n = room_short (whole (goal.at.returns-then-out-size c).Start) (room (goal.at.returns-then-out-size c).Start) (omega (arith, size (goal.at.returns-then-out-size c).Start, c.if-out-size.true)) in record { value = c.refused.ensures ∙ refused_answer 7 _ (sym n) (not_nought 6) (length (whole (goal.at.returns-then-out-size c).Start)) 0; out_after = c.requires.4 ∙ refused_out 7 _ (sym n) (not_nought 6) (whole (goal.at.returns-then-out-size c).Start) (room (goal.at.returns-then-out-size c).Start) }
 
 pub bounds-out-before : goal.bounds-out-before
@@ -45,12 +45,15 @@ pub overflow_cast-result : goal.overflow_cast-result
 overflow_cast-result c = omega (arith, c.requires)
 
 pub returns : goal.returns
-returns c = 
+returns c =
     let a = c.args in
     let next = a.before + 1 in
     let left = 16 - a.after in
     let back = drop a.after a.address.now in
-    let n = room_enough (whole (goal.at.returns c).Start) (room (goal.at.returns c).Start) (omega (arith, size (goal.at.returns c).Start, c.if-out-size.false)) in record { value = ap (λ (k : ℕ). answering k 0) (sym (size (goal.at.returns c).Start)) ∙ done_answer _ n (length (whole (goal.at.returns c).Start)) 0; out_after = c.copy-3.ensures
+    let n = room_enough (whole (goal.at.returns c).Start) (room (goal.at.returns c).Start) (omega (arith, size (goal.at.returns c).Start, c.if-out-size.false)) in record {
+      value = ap (λ (k : ℕ). answering k 0) (sym (size (goal.at.returns c).Start)) ∙ done_answer _ n (length (whole (goal.at.returns c).Start)) 0;
+      out_after = c.copy-3.ensures
           ∙ ap (λ (o : List ℕ). paste o (next + left) a.name.now (length a.name.now)) (c.copy-2.ensures ∙ ap (λ (o : List ℕ). paste (set o a.before a.prefix) next back left) c.copy.ensures)
           ∙ laid_over a.prefix a.address.now a.before a.after a.name.now c.requires.0 c.requires.1 c.requires.2 a.out.now (omega (arith, c.if-out-size.false))
-          ∙ over_blank a.out.now (whole (goal.at.returns c).Start) (room (goal.at.returns c).Start) c.requires.4 ∙ done_out _ n (whole (goal.at.returns c).Start) (room (goal.at.returns c).Start) }
+          ∙ over_blank a.out.now (whole (goal.at.returns c).Start) (room (goal.at.returns c).Start) c.requires.4 ∙ done_out _ n (whole (goal.at.returns c).Start) (room (goal.at.returns c).Start);
+    }

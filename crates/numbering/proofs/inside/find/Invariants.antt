@@ -1,5 +1,4 @@
 -- `numbering::inside::find` meets its contract: the names from the one that is looked at next on are others.
-use Prim.Native.Nat.{◌-◌}
 use Rattle.numbering.proofs.ListingLaws.{Seeking}
 use Rattle.numbering.proofs.inside.find.Given as goal
 

@@ -1,4 +1,4 @@
-use Prim.Native.Nat.{◌-◌, ◌<◌}
+use Prim.Native.Nat.{◌<◌}
 use mathlib.Core.Path.{◌≡◌}
 use native.Mathlib.Omega.{arith}
 use Rattle.plan.specs.Layout.{max_records, count_of}
@@ -23,7 +23,7 @@ pub loop-i-init : goal.loop-i-init
 loop-i-init c = (c.count-n.ensures, going_none c.requires.in_order.1)
 
 pub meet_owner-first-requires : goal.meet_owner-first-requires
-meet_owner-first-requires c = 
+meet_owner-first-requires c =
     let p = c.requires in
     let g = c.loop-i.invariant.1 in record { in_order = (p.in_order.0, g.listing); index_bound = (here (goal.at.meet_owner-first-requires c).In-loop-i, omega (arith, few (goal.at.meet_owner-first-requires c).In-loop-i), going_before g (here (goal.at.meet_owner-first-requires c).In-loop-i) p.table_in_bounds.0) }
 
@@ -31,7 +31,7 @@ pub offset_bounds-own-i : goal.offset_bounds-own-i
 offset_bounds-own-i c = omega (arith, few (goal.at.offset_bounds-own-i c).In-loop-i)
 
 pub meet_target-second-requires : goal.meet_target-second-requires
-meet_target-second-requires c = 
+meet_target-second-requires c =
     let o = c.meet_owner-first in
     let r : o.result.count < max_names = omega (arith, o.ensures.most, c.loop-i.invariant.1.less, few (goal.at.meet_target-second-requires c).In-loop-i) in record { in_order = (c.requires.in_order.0, o.ensures.listing); index_bound = (here (goal.at.meet_target-second-requires c).In-loop-i, r) }
 

@@ -1,4 +1,4 @@
-use Prim.Native.Nat.{◌+◌, ◌-◌}
+use Prim.Native.Nat.{◌+◌}
 use mathlib.Core.Path.{◌≡◌, refl, ap, ◌∙◌, sym}
 use lib.ListN.{get_or, drop, length-drop, length-set}
 use lib.Seq.{get_or-drop, paste, paste-zero, paste-suc}

@@ -1,4 +1,3 @@
-use Prim.Native.Nat.{◌-◌}
 use native.Mathlib.Omega.{arith}
 use Rattle.octets.proofs.OctetLaws.{clearing_start, clearing_turn, clearing_end}
 use Rattle.octets.proofs.numbers.clear.Goals as goal

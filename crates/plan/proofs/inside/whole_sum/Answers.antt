@@ -1,6 +1,5 @@
 use native.Mathlib.Omega.{arith}
 use mathlib.Core.Path.{◌≡◌, ap, ◌∙◌}
-use Prim.Native.Nat.{◌-◌}
 use Rattle.plan.specs.Marks.{sum_to}
 use Rattle.plan.proofs.MarkLaws.{sum_more}
 use Rattle.plan.proofs.inside.whole_sum.Goals as goal

@@ -33,7 +33,7 @@ returns-then-s-eq0 c =
     even_pushed a.name.now a.a a.skip a.n c.if-s-eq0.true c.append.ensures
 
 pub push-requires : goal.push-requires
-push-requires c = 
+push-requires c =
     record { ready = c.requires.ready; m_bound = (omega arith, rw c.low-x.ensures (field_small (octet (goal.at.push-requires c).Start) (width (goal.at.push-requires c).Start) c.args.n c.if-n-m.true)) }
 
 pub returns-then-n-m : goal.returns-then-n-m
@@ -42,11 +42,11 @@ returns-then-n-m c =
     short_pushed a.name.now a.a a.skip a.n c.low-x.result c.low-x.ensures (within (goal.at.returns-then-n-m c).After-low-x) (omega (arith, c.if-n-m.true)) c.push.ensures
 
 pub push-q-requires : goal.push-q-requires
-push-q-requires c = 
+push-q-requires c =
     let r = ready_less c.args.out.now c.args.p (width (goal.at.push-q-requires c).Start) c.args.n (omega (arith, c.if-n-m.false)) c.requires.ready in record { ready = r; m_bound = (omega arith, rw c.low-x.ensures (mod-lt (octet (goal.at.push-q-requires c).Start) (pow_pos (width (goal.at.push-q-requires c).Start)))) }
 
 pub append-requires-2 : goal.append-requires-2
-append-requires-2 c = 
+append-requires-2 c =
     let x = c.low-x.result in
     let h = c.if-n-m.false in
     let bs = bits_of (width (goal.at.append-requires-2 c).Start) x in

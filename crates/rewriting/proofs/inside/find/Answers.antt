@@ -1,4 +1,3 @@
-use Prim.Native.Nat.{◌-◌}
 use native.Mathlib.Omega.{arith}
 use Rattle.names.proofs.MergeLaws.{begins_inside}
 use Rattle.rewriting.proofs.SpotLaws.{passed_within, seeking_start, seeking_on, seeking_found, seeking_never}

@@ -140,7 +140,7 @@ pub overflow_sub-size : goal.overflow_sub-size
 overflow_sub-size c = let j = joint (goal.at.overflow_sub-size c).After-leading-f in omega arith
 
 pub returns-then-size-gt255 : goal.returns-then-size-gt255
-returns-then-size-gt255 c = 
+returns-then-size-gt255 c =
     let r = over_size (joint (goal.at.returns-then-size-gt255 c).After-leading-f) (omega (arith, c.if-total-gt256.false)) c.if-size-gt255.true in record { value = r.0; out_after = c.requires.standing.1 ∙ r.1 }
 
 pub copy-requires : goal.copy-requires
@@ -156,12 +156,12 @@ bounds-out-at-2 c =
     simp length-set (omega (arith, c.copy.auto.out))
 
 pub append_from-q-requires : goal.append_from-q-requires
-append_from-q-requires c = 
+append_from-q-requires c =
     let j = joint (goal.at.append_from-q-requires c).After-leading-f in
     let s = short (goal.at.append_from-q-requires c).Else-size-gt255 in record { ready = packed_ready (opened (goal.at.append_from-q-requires c).After-copy) (front (goal.at.append_from-q-requires c).After-leading-f).bits (omega arith); n_bound = (omega arith, omega arith) }
 
 pub append_from-r-requires : goal.append_from-r-requires
-append_from-r-requires c = 
+append_from-r-requires c =
     let j = joint (goal.at.append_from-r-requires c).After-leading-f in
     let z = j.fronted.sized in
     let s = short (goal.at.append_from-r-requires c).Else-size-gt255 in record { ready = packed_ready (half (goal.at.append_from-r-requires c).After-append_from-q) (kept (goal.at.append_from-r-requires c).After-leading-f) (omega arith); n_bound = (omega arith, omega arith) }

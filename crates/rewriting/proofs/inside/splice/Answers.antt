@@ -47,7 +47,7 @@ pub bounds-name-at : goal.bounds-name-at
 bounds-name-at c = (found_within (held (goal.at.bounds-name-at c).After-find-s)).0
 
 pub join-requires : goal.join-requires
-join-requires c = 
+join-requires c =
     let b = bits_inside (held (goal.at.join-requires c).After-find-s) c.if-name-at-eq65.true in record { standing = ((held (goal.at.join-requires c).After-find-s).standing.1, c.requires.k_nonzero.2); name_len_bound = ((found_within (held (goal.at.join-requires c).After-find-s)).2, b.0, b.1, omega arith) }
 
 pub returns-then-name-at-eq65 : goal.returns-then-name-at-eq65
@@ -59,7 +59,7 @@ pub overflow_add-size : goal.overflow_add-size
 overflow_add-size c = let w = found_within (held (goal.at.overflow_add-size c).After-find-s) in omega arith
 
 pub returns-then-size-gt255 : goal.returns-then-size-gt255
-returns-then-size-gt255 c = 
+returns-then-size-gt255 c =
     let y = label_over (held (goal.at.returns-then-size-gt255 c).After-find-s) c.if-name-at-eq65.false c.if-size-gt255.true in record { value = y.0; out_after = c.requires.k_nonzero.2 ∙ y.1 }
 
 pub copy-requires : goal.copy-requires

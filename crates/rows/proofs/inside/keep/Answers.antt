@@ -15,7 +15,7 @@ returns-then-is_at c =
     (ap (λ (l : List ℕ). kept a.out.now l a.figures.now) c.lower.ensures ∙ e, p.0, p.1)
 
 pub keep_sought-requires : goal.keep_sought-requires
-keep_sought-requires c = 
+keep_sought-requires c =
     let p = c.requires in
     let l = c.spot_of-spot.ensures in record { figures_len = (p.0, p.1, p.2); le_spot = (omega arith, omega arith, p.4) }
 

@@ -6,7 +6,7 @@ use Rattle.rows.proofs.RowsLaws.{keep_at_lem, kept_hint}
 use Rattle.rows.proofs.inside.keep_sought.Goals as goal
 
 pub keep_at-requires : goal.keep_at-requires
-keep_at-requires c = 
+keep_at-requires c =
     let a = c.args in
     let p = c.requires in
     let k = c.place-k in

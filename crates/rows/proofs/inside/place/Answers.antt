@@ -1,6 +1,6 @@
-use Rattle.std.proofs.Common.{◌-◌, sym, ◌∙◌, arith}
+use Rattle.std.proofs.Common.{sym, ◌∙◌, arith}
 use Rattle.rows.specs.Halves.{address_of}
-use Rattle.rows.proofs.RowsLaws.{seeking_start, seeking_right, seeking_left, seeking_end, not_before}
+use Rattle.rows.proofs.RowsLaws.{seeking_start, seeking_right, seeking_left, seeking_end}
 use Rattle.rows.proofs.inside.place.Goals as goal
 
 pub loop-from-init : goal.loop-from-init
