@@ -11,6 +11,7 @@ use lib.ListN.{length, drop}
 use borrow.Author.Tests.{ne_eqb, eqb-true, eqb-false, ltb-true, ltb-false}
 use contract.Lifetimes.{Lfts}
 use denote.Ref.{Bor}
+use denote.MutBor.{MutBor}
 use Rattle.octets.specs.Octets.{blank, same, flat}
 use Rattle.octets.specs.Zeros.{is_blank}
 use Rattle.octets.specs.Numbers.{octets_of}
@@ -126,7 +127,7 @@ plainly = (tt, (λ h. h, λ h. h))
 pub octets_refused : (κs : Lfts 0) (number : ℕ) (r : Answer) → Promises (refused.Asked κs) (refused.Learnt κs) (number, tt) r (number, tt) (r ≡ refusal number)
 octets_refused κs number r = plainly
 
-pub octets_clear : (κs : Lfts 1) (out end : Bor (List ℕ)) → Promises (clear.Asked κs) (clear.Learnt κs) (out, tt) tt (end, tt) (end.now ≡ blank (length out.now))
+pub octets_clear : (κs : Lfts 1) (out end : MutBor (List ℕ)) → Promises (clear.Asked κs) (clear.Learnt κs) (out, tt) tt (end, tt) (end.now ≡ blank (length out.now))
 octets_clear κs out end = plainly
 
 pub octets_equal : (κs : Lfts 2) (a b : Bor (List ℕ)) (r : Bool) → Promises (equal.Asked κs) (equal.Learnt κs) (a, (b, tt)) r (a, (b, tt)) (r ≡ same a.now b.now)
@@ -142,7 +143,7 @@ octets_is_blank κs s from r = plainly
 pub octets_quarter_octets : (κs : Lfts 0) (v : ℕ) (r : List ℕ) → Promises (quarter_octets.Asked κs) (quarter_octets.Learnt κs) (v, tt) r (v, tt) (r ≡ octets_of 4 v)
 octets_quarter_octets κs v r = plainly
 
-pub octets_numbers_clear : (κs : Lfts 1) (list end : Bor (List ℕ))
+pub octets_numbers_clear : (κs : Lfts 1) (list end : MutBor (List ℕ))
     → Promises (numbers-clear.Asked κs) (numbers-clear.Learnt κs) (list, tt) tt (end, tt) (end.now ≡ blank (length list.now))
 octets_numbers_clear κs list end = plainly
 
@@ -169,7 +170,7 @@ address_is_clear κs a n r = plainly
 pub labels_scan : (κs : Lfts 1) (s : Bor (List ℕ)) (r : Scanned) → Promises (scan.Asked κs) (scan.Learnt κs) (s, tt) r (s, tt) (r ≡ scanned (scan_of s.now))
 labels_scan κs s r = plainly
 
-pub names_standard_form : (κs : Lfts 2) (name out end : Bor (List ℕ)) (r : Answer)
+pub names_standard_form : (κs : Lfts 2) (name : Bor (List ℕ)) (out end : MutBor (List ℕ)) (r : Answer)
     → Promises (standard_form.Asked κs) (standard_form.Learnt κs) (name, (out, tt)) r (name, (end, tt))
     ((r ≡ standard_answer name.now (length out.now)) × (end.now ≡ standard_out name.now (length out.now)))
 names_standard_form κs name out end r = plainly
@@ -182,7 +183,7 @@ pub names_hold : (κs : Lfts 1) (name : Bor (List ℕ)) (r : Name) → Promises 
 names_hold κs name r = plainly
 
 -- ---- text and nametext
-pub text_write_decimal : (κs : Lfts 1) (n : ℕ) (out end : Bor (List ℕ)) (r : Answer)
+pub text_write_decimal : (κs : Lfts 1) (n : ℕ) (out end : MutBor (List ℕ)) (r : Answer)
     → Promises (write-decimal.Asked κs) (write-decimal.Learnt κs) (n, (out, tt)) r (n, (end, tt))
     ((r ≡ text_answer (write_decimal n) (length out.now)) × (end.now ≡ text_out (write_decimal n) (length out.now)))
 text_write_decimal κs n out end r = plainly
@@ -191,7 +192,7 @@ pub text_read_decimal : (κs : Lfts 1) (s : Bor (List ℕ)) (from bound : ℕ) (
     → Promises (read_decimal.Asked κs) (read_decimal.Learnt κs) (s, (from, (bound, tt))) r (s, (from, (bound, tt))) (r ≡ decimal_at s.now from bound)
 text_read_decimal κs s from bound r = plainly
 
-pub text_write_address : (κs : Lfts 1) (address : List ℕ) (out end : Bor (List ℕ)) (r : Answer)
+pub text_write_address : (κs : Lfts 1) (address : List ℕ) (out end : MutBor (List ℕ)) (r : Answer)
     → Promises (write-address.Asked κs) (write-address.Learnt κs) (address, (out, tt)) r (address, (end, tt))
     ((r ≡ text_answer (write_address address) (length out.now)) × (end.now ≡ text_out (write_address address) (length out.now)))
 text_write_address κs address out end r = plainly
@@ -207,7 +208,7 @@ text_read_whole κs text r = plainly
 pub text_digit_in : (κs : Lfts 0) (c r : ℕ) → Promises (digit_in.Asked κs) (digit_in.Learnt κs) (c, tt) r (c, tt) ((r ≡ digit_in c) × (r ≤ 16))
 text_digit_in κs c r = plainly
 
-pub nametext_write_name : (κs : Lfts 2) (name out end : Bor (List ℕ)) (r : Answer)
+pub nametext_write_name : (κs : Lfts 2) (name : Bor (List ℕ)) (out end : MutBor (List ℕ)) (r : Answer)
     → Promises (write-name.Asked κs) (write-name.Learnt κs) (name, (out, tt)) r (name, (end, tt))
     ((r ≡ write_name_answer name.now (length out.now)) × (end.now ≡ write_name_out name.now (length out.now)))
 nametext_write_name κs name out end r = plainly
@@ -220,7 +221,7 @@ nametext_read_name κs s from r = plainly
 pub a6_read : (κs : Lfts 1) (rdata : Bor (List ℕ)) (r : Reading) → Promises (read.Asked κs) (read.Learnt κs) (rdata, tt) r (rdata, tt) (r ≡ read_of rdata.now)
 a6_read κs rdata r = plainly
 
-pub a6_write : (κs : Lfts 1) (value : Value) (out end : Bor (List ℕ)) (r : Answer)
+pub a6_write : (κs : Lfts 1) (value : Value) (out end : MutBor (List ℕ)) (r : Answer)
     → Promises (write.Asked κs) (write.Learnt κs) (value, (out, tt)) r (value, (end, tt))
     ((r ≡ write_answer value (length out.now)) × (end.now ≡ write_out value (length out.now)))
 a6_write κs value out end r = plainly
@@ -230,7 +231,7 @@ pub draft_draft_read : (κs : Lfts 1) (rdata : Bor (List ℕ)) (r : Reading)
     → Promises (draft-read.Asked κs) (draft-read.Learnt κs) (rdata, tt) r (rdata, tt) (r ≡ draft_reading rdata.now)
 draft_draft_read κs rdata r = plainly
 
-pub draft_draft_write : (κs : Lfts 1) (value : Value) (out end : Bor (List ℕ)) (r : Answer)
+pub draft_draft_write : (κs : Lfts 1) (value : Value) (out end : MutBor (List ℕ)) (r : Answer)
     → Promises (draft-write.Asked κs) (draft-write.Learnt κs) (value, (out, tt)) r (value, (end, tt))
     ((r ≡ draft_answer value (length out.now)) × (end.now ≡ draft_out value (length out.now)))
 draft_draft_write κs value out end r = plainly
@@ -248,76 +249,76 @@ pub plan_is_a6 : (κs : Lfts 1) (row : Bor (List ℕ)) (r : Bool) → Promises (
 plan_is_a6 κs row r = plainly
 
 -- ---- line
-pub line_write_line : (κs : Lfts 2) (row out end : Bor (List ℕ)) (r : Answer)
+pub line_write_line : (κs : Lfts 2) (row : Bor (List ℕ)) (out end : MutBor (List ℕ)) (r : Answer)
     → Promises (write_line.Asked κs) (write_line.Learnt κs) (row, (out, tt)) r (row, (end, tt))
     ((r ≡ write_line_answer row.now (length out.now)) × (end.now ≡ write_line_out row.now (length out.now)))
 line_write_line κs row out end r = plainly
 
-pub line_read_line : (κs : Lfts 2) (line out end : Bor (List ℕ)) (r : Answer)
+pub line_read_line : (κs : Lfts 2) (line : Bor (List ℕ)) (out end : MutBor (List ℕ)) (r : Answer)
     → Promises (read_line.Asked κs) (read_line.Learnt κs) (line, (out, tt)) r (line, (end, tt))
     ((r ≡ read_line_answer line.now (length out.now)) × (end.now ≡ read_line_out line.now (length out.now)))
 line_read_line κs line out end r = plainly
 
 -- ---- forward, reverse and collapse
-pub forward_lookup : (κs : Lfts 4) (table name out end ttls left : Bor (List ℕ)) (limit : ℕ) (r : Reply)
+pub forward_lookup : (κs : Lfts 4) (table name : Bor (List ℕ)) (out end ttls left : MutBor (List ℕ)) (limit : ℕ) (r : Reply)
     → Promises (lookup.Asked κs) (lookup.Learnt κs) (table, (name, (limit, (out, (ttls, tt))))) r (table, (name, (limit, (end, (left, tt)))))
     ((r ≡ replying table.now (lookup_answer table.now name.now limit (length out.now) (length ttls.now)))
     × ((end.now ≡ lookup_out table.now name.now limit (length out.now) (length ttls.now))
     × (left.now ≡ lookup_ttls table.now name.now limit (length out.now) (length ttls.now))))
 forward_lookup κs table name out end ttls left limit r = plainly
 
-pub reverse_lookup : (κs : Lfts 3) (table address out end : Bor (List ℕ)) (limit : ℕ) (r : Reply)
+pub reverse_lookup : (κs : Lfts 3) (table address : Bor (List ℕ)) (out end : MutBor (List ℕ)) (limit : ℕ) (r : Reply)
     → Promises (reverse.Asked κs) (reverse.Learnt κs) (table, (address, (limit, (out, tt)))) r (table, (address, (limit, (end, tt))))
     ((r ≡ replying table.now (reverse_answer table.now address.now limit (length out.now))) × (end.now ≡ reverse_out table.now address.now limit (length out.now)))
 reverse_lookup κs table address out end limit r = plainly
 
-pub collapse_collapse : (κs : Lfts 3) (table name out end : Bor (List ℕ)) (r : Reply)
+pub collapse_collapse : (κs : Lfts 3) (table name : Bor (List ℕ)) (out end : MutBor (List ℕ)) (r : Reply)
     → Promises (collapse.Asked κs) (collapse.Learnt κs) (table, (name, (out, tt))) r (table, (name, (end, tt)))
     ((r ≡ replying table.now (collapse_answer table.now name.now (length out.now))) × (end.now ≡ collapse_out table.now name.now (length out.now)))
 collapse_collapse κs table name out end r = plainly
 
 -- ---- the twelve exports: the number, the output and the figures
-pub export_standard : (κs : Lfts 3) (name out end figures figured : Bor (List ℕ)) (r : ℕ)
+pub export_standard : (κs : Lfts 3) (name : Bor (List ℕ)) (out end figures figured : MutBor (List ℕ)) (r : ℕ)
     → Promises (a6plan-standard.Asked κs) (a6plan-standard.Learnt κs) (name, (out, (figures, tt))) r (name, (end, (figured, tt)))
     ((r ≡ exported_number of_name (length figures.now) (standard_number name.now (length out.now)))
     × ((end.now ≡ out_by r (standard_of name.now) (length out.now)) × (figured.now ≡ exported_figures r (standard_answer name.now (length out.now)) (length figures.now))))
 export_standard κs name out end figures figured r = plainly
 
-pub export_read : (κs : Lfts 2) (rdata value end : Bor (List ℕ)) (r : ℕ)
+pub export_read : (κs : Lfts 2) (rdata : Bor (List ℕ)) (value end : MutBor (List ℕ)) (r : ℕ)
     → Promises (a6plan-read.Asked κs) (a6plan-read.Learnt κs) (rdata, (value, tt)) r (rdata, (end, tt))
     ((r ≡ exported_read_number (length value.now) (read_number rdata.now)) × (end.now ≡ out_by r (value_octets (value_of rdata.now)) (length value.now)))
 export_read κs rdata value end r = plainly
 
-pub export_write : (κs : Lfts 3) (value out end figures figured : Bor (List ℕ)) (r : ℕ)
+pub export_write : (κs : Lfts 3) (value : Bor (List ℕ)) (out end figures figured : MutBor (List ℕ)) (r : ℕ)
     → Promises (a6plan-write.Asked κs) (a6plan-write.Learnt κs) (value, (out, (figures, tt))) r (value, (end, (figured, tt)))
     ((r ≡ exported_write_number (length value.now) (length figures.now) (write_number (value_in value.now) (length out.now)))
     × ((end.now ≡ out_by r (data_of (value_in value.now)) (length out.now))
     × (figured.now ≡ exported_figures r (write_answer (value_in value.now) (length out.now)) (length figures.now))))
 export_write κs value out end figures figured r = plainly
 
-pub export_read_1998 : (κs : Lfts 2) (rdata value end : Bor (List ℕ)) (r : ℕ)
+pub export_read_1998 : (κs : Lfts 2) (rdata : Bor (List ℕ)) (value end : MutBor (List ℕ)) (r : ℕ)
     → Promises (a6plan-read-1998.Asked κs) (a6plan-read-1998.Learnt κs) (rdata, (value, tt)) r (rdata, (end, tt))
     ((r ≡ exported_read_number (length value.now) (draft_number rdata.now)) × (end.now ≡ out_by r (value_octets (draft_value rdata.now)) (length value.now)))
 export_read_1998 κs rdata value end r = plainly
 
-pub export_write_1998 : (κs : Lfts 3) (value out end figures figured : Bor (List ℕ)) (r : ℕ)
+pub export_write_1998 : (κs : Lfts 3) (value : Bor (List ℕ)) (out end figures figured : MutBor (List ℕ)) (r : ℕ)
     → Promises (a6plan-write-1998.Asked κs) (a6plan-write-1998.Learnt κs) (value, (out, (figures, tt))) r (value, (end, (figured, tt)))
     ((r ≡ exported_write_number (length value.now) (length figures.now) (draft_write_number (value_in value.now) (length out.now)))
     × ((end.now ≡ out_by r (draft_data (value_in value.now)) (length out.now))
     × (figured.now ≡ exported_figures r (draft_answer (value_in value.now) (length out.now)) (length figures.now))))
 export_write_1998 κs value out end figures figured r = plainly
 
-pub export_check : (κs : Lfts 2) (table figures figured : Bor (List ℕ)) (r : ℕ)
+pub export_check : (κs : Lfts 2) (table : Bor (List ℕ)) (figures figured : MutBor (List ℕ)) (r : ℕ)
     → Promises (a6plan-check.Asked κs) (a6plan-check.Learnt κs) (table, (figures, tt)) r (table, (figured, tt))
     ((r ≡ exported_number of_check (length figures.now) (check_of table.now)) × (figured.now ≡ placed_figures (fault_figures (fault_in table.now)) (length figures.now)))
 export_check κs table figures figured r = plainly
 
-pub export_owner : (κs : Lfts 2) (table : Bor (List ℕ)) (index : ℕ) (figures figured : Bor (List ℕ)) (r : ℕ)
+pub export_owner : (κs : Lfts 2) (table : Bor (List ℕ)) (index : ℕ) (figures figured : MutBor (List ℕ)) (r : ℕ)
     → Promises (a6plan-owner.Asked κs) (a6plan-owner.Learnt κs) (table, (index, (figures, tt))) r (table, (index, (figured, tt)))
     ((r ≡ exported_number of_part (length figures.now) 0) × (figured.now ≡ exported_figures r (part_answer (owner_part table.now index)) (length figures.now)))
 export_owner κs table index figures figured r = plainly
 
-pub export_lookup : (κs : Lfts 5) (table name : Bor (List ℕ)) (limit : ℕ) (out end ttls left figures figured : Bor (List ℕ)) (r : ℕ)
+pub export_lookup : (κs : Lfts 5) (table name : Bor (List ℕ)) (limit : ℕ) (out end ttls left figures figured : MutBor (List ℕ)) (r : ℕ)
     → Promises (a6plan-lookup.Asked κs) (a6plan-lookup.Learnt κs) (table, (name, (limit, (out, (ttls, (figures, tt)))))) r (table, (name, (limit, (end, (left, (figured, tt))))))
     ((r ≡ exported_number of_table (length figures.now) (lookup_number table.now name.now limit (length out.now) (length ttls.now)))
     × ((end.now ≡ output_of (graph_of table.now) name.now r (length out.now))
@@ -325,27 +326,27 @@ pub export_lookup : (κs : Lfts 5) (table name : Bor (List ℕ)) (limit : ℕ) (
     × (figured.now ≡ placed_figures (reply_figures (replying table.now (lookup_answer table.now name.now limit (length out.now) (length ttls.now)))) (length figures.now)))))
 export_lookup κs table name limit out end ttls left figures figured r = plainly
 
-pub export_reverse : (κs : Lfts 4) (table address : Bor (List ℕ)) (limit : ℕ) (out end figures figured : Bor (List ℕ)) (r : ℕ)
+pub export_reverse : (κs : Lfts 4) (table address : Bor (List ℕ)) (limit : ℕ) (out end figures figured : MutBor (List ℕ)) (r : ℕ)
     → Promises (a6plan-reverse.Asked κs) (a6plan-reverse.Learnt κs) (table, (address, (limit, (out, (figures, tt))))) r (table, (address, (limit, (end, (figured, tt)))))
     ((r ≡ exported_number of_table (length figures.now) (end_number (end_of table.now address.now limit (length out.now))))
     × ((end.now ≡ out_by r (end_name (end_of table.now address.now limit (length out.now))) (length out.now))
     × (figured.now ≡ placed_figures (reply_figures (replying table.now (reverse_answer table.now address.now limit (length out.now)))) (length figures.now))))
 export_reverse κs table address limit out end figures figured r = plainly
 
-pub export_collapse : (κs : Lfts 4) (table name : Bor (List ℕ)) (out end figures figured : Bor (List ℕ)) (r : ℕ)
+pub export_collapse : (κs : Lfts 4) (table name : Bor (List ℕ)) (out end figures figured : MutBor (List ℕ)) (r : ℕ)
     → Promises (a6plan-collapse.Asked κs) (a6plan-collapse.Learnt κs) (table, (name, (out, (figures, tt)))) r (table, (name, (end, (figured, tt))))
     ((r ≡ exported_number of_table (length figures.now) (number_of table.now name.now (length out.now)))
     × ((end.now ≡ out_by r (flat (fold_of name.now table.now)) (length out.now))
     × (figured.now ≡ placed_figures (reply_figures (replying table.now (collapse_answer table.now name.now (length out.now)))) (length figures.now))))
 export_collapse κs table name out end figures figured r = plainly
 
-pub export_write_line : (κs : Lfts 3) (row out end figures figured : Bor (List ℕ)) (r : ℕ)
+pub export_write_line : (κs : Lfts 3) (row : Bor (List ℕ)) (out end figures figured : MutBor (List ℕ)) (r : ℕ)
     → Promises (a6plan-write-line.Asked κs) (a6plan-write-line.Learnt κs) (row, (out, (figures, tt))) r (row, (end, (figured, tt)))
     ((r ≡ exported_number of_line (length figures.now) (write_line_number row.now (length out.now)))
     × ((end.now ≡ out_by r (line_of row.now) (length out.now)) × (figured.now ≡ exported_figures r (write_line_answer row.now (length out.now)) (length figures.now))))
 export_write_line κs row out end figures figured r = plainly
 
-pub export_read_line : (κs : Lfts 3) (line out end figures figured : Bor (List ℕ)) (r : ℕ)
+pub export_read_line : (κs : Lfts 3) (line : Bor (List ℕ)) (out end figures figured : MutBor (List ℕ)) (r : ℕ)
     → Promises (a6plan-read-line.Asked κs) (a6plan-read-line.Learnt κs) (line, (out, (figures, tt))) r (line, (end, (figured, tt)))
     ((r ≡ exported_number of_line (length figures.now) (read_line_number line.now (length out.now)))
     × ((end.now ≡ out_by r (record_in line.now) (length out.now)) × (figured.now ≡ exported_figures r (read_line_answer line.now (length out.now)) (length figures.now))))
@@ -463,46 +464,46 @@ zeros : (r : ℕ) (result : List ℕ) (room : ℕ) {end : List ℕ} → (r ≡ 0
 zeros r result room h e = e ∙ sym (refused_out r r refl h result room)
 
 -- of `a6plan_standard`
-pub export_standard_clears : (κs : Lfts 3) (name out end figures figured : Bor (List ℕ)) (r : ℕ)
+pub export_standard_clears : (κs : Lfts 3) (name : Bor (List ℕ)) (out end figures figured : MutBor (List ℕ)) (r : ℕ)
     → a6plan-standard.Learnt κs (name, (out, (figures, tt))) r (name, (end, (figured, tt))) → (r ≡ 0 → ⊥)
     → (end.now ≡ blank (length out.now)) × (figured.now ≡ blank (length figures.now))
 export_standard_clears κs name out end figures figured r l h = (zeros r _ _ h l.1.0, zeros r _ _ h l.1.1)
 
 -- of `a6plan_read`
-pub export_read_clears : (κs : Lfts 2) (rdata value end : Bor (List ℕ)) (r : ℕ)
+pub export_read_clears : (κs : Lfts 2) (rdata : Bor (List ℕ)) (value end : MutBor (List ℕ)) (r : ℕ)
     → a6plan-read.Learnt κs (rdata, (value, tt)) r (rdata, (end, tt)) → (r ≡ 0 → ⊥) → end.now ≡ blank (length value.now)
 export_read_clears κs rdata value end r l h = zeros r _ _ h l.1
 
 -- of `a6plan_write`
-pub export_write_clears : (κs : Lfts 3) (value out end figures figured : Bor (List ℕ)) (r : ℕ)
+pub export_write_clears : (κs : Lfts 3) (value : Bor (List ℕ)) (out end figures figured : MutBor (List ℕ)) (r : ℕ)
     → a6plan-write.Learnt κs (value, (out, (figures, tt))) r (value, (end, (figured, tt))) → (r ≡ 0 → ⊥)
     → (end.now ≡ blank (length out.now)) × (figured.now ≡ blank (length figures.now))
 export_write_clears κs value out end figures figured r l h = (zeros r _ _ h l.1.0, zeros r _ _ h l.1.1)
 
 -- of `a6plan_read_1998`
-pub export_read_1998_clears : (κs : Lfts 2) (rdata value end : Bor (List ℕ)) (r : ℕ)
+pub export_read_1998_clears : (κs : Lfts 2) (rdata : Bor (List ℕ)) (value end : MutBor (List ℕ)) (r : ℕ)
     → a6plan-read-1998.Learnt κs (rdata, (value, tt)) r (rdata, (end, tt)) → (r ≡ 0 → ⊥) → end.now ≡ blank (length value.now)
 export_read_1998_clears κs rdata value end r l h = zeros r _ _ h l.1
 
 -- of `a6plan_write_1998`
-pub export_write_1998_clears : (κs : Lfts 3) (value out end figures figured : Bor (List ℕ)) (r : ℕ)
+pub export_write_1998_clears : (κs : Lfts 3) (value : Bor (List ℕ)) (out end figures figured : MutBor (List ℕ)) (r : ℕ)
     → a6plan-write-1998.Learnt κs (value, (out, (figures, tt))) r (value, (end, (figured, tt))) → (r ≡ 0 → ⊥)
     → (end.now ≡ blank (length out.now)) × (figured.now ≡ blank (length figures.now))
 export_write_1998_clears κs value out end figures figured r l h = (zeros r _ _ h l.1.0, zeros r _ _ h l.1.1)
 
 -- of `a6plan_owner`
-pub export_owner_clears : (κs : Lfts 2) (table : Bor (List ℕ)) (index : ℕ) (figures figured : Bor (List ℕ)) (r : ℕ)
+pub export_owner_clears : (κs : Lfts 2) (table : Bor (List ℕ)) (index : ℕ) (figures figured : MutBor (List ℕ)) (r : ℕ)
     → a6plan-owner.Learnt κs (table, (index, (figures, tt))) r (table, (index, (figured, tt))) → (r ≡ 0 → ⊥) → figured.now ≡ blank (length figures.now)
 export_owner_clears κs table index figures figured r l h = zeros r _ _ h l.1
 
 -- of `a6plan_write_line`
-pub export_write_line_clears : (κs : Lfts 3) (row out end figures figured : Bor (List ℕ)) (r : ℕ)
+pub export_write_line_clears : (κs : Lfts 3) (row : Bor (List ℕ)) (out end figures figured : MutBor (List ℕ)) (r : ℕ)
     → a6plan-write-line.Learnt κs (row, (out, (figures, tt))) r (row, (end, (figured, tt))) → (r ≡ 0 → ⊥)
     → (end.now ≡ blank (length out.now)) × (figured.now ≡ blank (length figures.now))
 export_write_line_clears κs row out end figures figured r l h = (zeros r _ _ h l.1.0, zeros r _ _ h l.1.1)
 
 -- of `a6plan_read_line`
-pub export_read_line_clears : (κs : Lfts 3) (line out end figures figured : Bor (List ℕ)) (r : ℕ)
+pub export_read_line_clears : (κs : Lfts 3) (line : Bor (List ℕ)) (out end figures figured : MutBor (List ℕ)) (r : ℕ)
     → a6plan-read-line.Learnt κs (line, (out, (figures, tt))) r (line, (end, (figured, tt))) → (r ≡ 0 → ⊥)
     → (end.now ≡ blank (length out.now)) × (figured.now ≡ blank (length figures.now))
 export_read_line_clears κs line out end figures figured r l h = (zeros r _ _ h l.1.0, zeros r _ _ h l.1.1)
@@ -523,7 +524,7 @@ module _ (t : List ℕ) (n k count work r : ℕ) (e : r ≡ exported_number of_t
   place_none w g h = by_places 2 (λ p q. let z = w.other (λ x. g (p ∙ x)) (λ x. h (p ∙ x)) in rw (q, z) (refl, refl))
 
 -- index and field of `a6plan_check` are zero where the number is neither 2 nor 3; it has no count and no work
-pub export_check_unplaced : (κs : Lfts 2) (table figures figured : Bor (List ℕ)) (r : ℕ)
+pub export_check_unplaced : (κs : Lfts 2) (table : Bor (List ℕ)) (figures figured : MutBor (List ℕ)) (r : ℕ)
     → a6plan-check.Learnt κs (table, (figures, tt)) r (table, (figured, tt)) → (r ≡ 2 → ⊥) → (r ≡ 3 → ⊥) → Noughts 0 figured.now
 export_check_unplaced κs table figures figured r l g h = go (eqb (length figures.now) 2) refl
   where
@@ -536,7 +537,7 @@ export_check_unplaced κs table figures figured r l g h = go (eqb (length figure
     go false e = rw (l.1 ∙ sym (placed_none _ _ (eqb-false (length figures.now) 2 e))) (get_or_blank (length figures.now) 0, get_or_blank (length figures.now) 1)
 
 -- `a6plan_lookup`
-module _ (κs : Lfts 5) (table name : Bor (List ℕ)) (limit : ℕ) (out end ttls left figures figured : Bor (List ℕ)) (r : ℕ)
+module _ (κs : Lfts 5) (table name : Bor (List ℕ)) (limit : ℕ) (out end ttls left figures figured : MutBor (List ℕ)) (r : ℕ)
     (l : a6plan-lookup.Learnt κs (table, (name, (limit, (out, (ttls, (figures, tt)))))) r (table, (name, (limit, (end, (left, (figured, tt))))))) where
   -- both lists of `a6plan_lookup`, count and work are zero where the number is not 0
   pub export_lookup_clears : (r ≡ 0 → ⊥) → (end.now ≡ blank (length out.now)) × (left.now ≡ blank (length ttls.now)) × Noughts 0 figured.now
@@ -547,7 +548,7 @@ module _ (κs : Lfts 5) (table name : Bor (List ℕ)) (limit : ℕ) (out end ttl
   export_lookup_unplaced = place_none table.now _ _ _ _ r l.0 l.1.1.1 (lookup_placed table.now name.now limit (length out.now) (length ttls.now))
 
 -- `a6plan_reverse`
-module _ (κs : Lfts 4) (table address : Bor (List ℕ)) (limit : ℕ) (out end figures figured : Bor (List ℕ)) (r : ℕ)
+module _ (κs : Lfts 4) (table address : Bor (List ℕ)) (limit : ℕ) (out end figures figured : MutBor (List ℕ)) (r : ℕ)
     (l : a6plan-reverse.Learnt κs (table, (address, (limit, (out, (figures, tt))))) r (table, (address, (limit, (end, (figured, tt)))))) where
   -- the output of `a6plan_reverse`, count and work are zero where the number is not 0
   pub export_reverse_clears : (r ≡ 0 → ⊥) → (end.now ≡ blank (length out.now)) × Noughts 0 figured.now
@@ -558,7 +559,7 @@ module _ (κs : Lfts 4) (table address : Bor (List ℕ)) (limit : ℕ) (out end 
   export_reverse_unplaced = place_none table.now _ _ _ _ r l.0 l.1.1 (reverse_placed table.now address.now limit (length out.now))
 
 -- `a6plan_collapse`
-module _ (κs : Lfts 4) (table name : Bor (List ℕ)) (out end figures figured : Bor (List ℕ)) (r : ℕ)
+module _ (κs : Lfts 4) (table name : Bor (List ℕ)) (out end figures figured : MutBor (List ℕ)) (r : ℕ)
     (l : a6plan-collapse.Learnt κs (table, (name, (out, (figures, tt)))) r (table, (name, (end, (figured, tt))))) where
   -- the output of `a6plan_collapse`, count and work are zero where the number is not 0
   pub export_collapse_clears : (r ≡ 0 → ⊥) → (end.now ≡ blank (length out.now)) × Noughts 0 figured.now

@@ -10,6 +10,7 @@ use native.Mathlib.Omega.{arith}
 use borrow.Author.Tests.{ltb-true, ltb-false}
 use contract.Lifetimes.{Lfts}
 use denote.Ref.{Bor}
+use denote.MutBor.{MutBor}
 use Rattle.octets.specs.Octets.{blank, Small}
 use Rattle.octets.specs.Answers.{answering}
 use Rattle.octets.proofs.AnswerLaws.{by_number}
@@ -121,7 +122,7 @@ module _ {t name : List ℕ} {limit room : ℕ} {r : Answer} {out ttls : List �
 
 -- A call of the running `lookup` with input that earns none of 1 to 5, by what its caller learns: its answer and its two lists, as it leaves them,
 -- are as the demand says.
-module _ (κs : Lfts 4) (table name out end ttls ends : Bor (List ℕ)) (limit : ℕ) (r : Reply)
+module _ (κs : Lfts 4) (table name : Bor (List ℕ)) (out end ttls ends : MutBor (List ℕ)) (limit : ℕ) (r : Reply)
     (learnt : forward.Learnt κs (table, (name, (limit, (out, (ttls, tt))))) r (table, (name, (limit, (end, (ends, tt))))))
     (o : InOrder table.now) (w : well_formed name.now ≡ true) (e : length out.now ≡ length ttls.now * 16) where
   -- of a table of octets: a caller's proof has this of each slice of octets that it lends
@@ -178,7 +179,7 @@ module _ {t address : List ℕ} {limit : ℕ} {r : Answer} {out : List ℕ} (d :
 
 -- A call of the running `lookup` of reverse names with input that earns none of 1 to 5, by what its caller learns: its answer and its output, as it
 -- leaves it, are as the demand says. Nothing of the octets of a slice is needed.
-pub reverse_running : (κs : Lfts 3) (table address out end : Bor (List ℕ)) (limit : ℕ) (r : Reply)
+pub reverse_running : (κs : Lfts 3) (table address : Bor (List ℕ)) (out end : MutBor (List ℕ)) (limit : ℕ) (r : Reply)
     → reversed.Learnt κs (table, (address, (limit, (out, tt)))) r (table, (address, (limit, (end, tt))))
     → InOrder table.now → length address.now ≡ address_size → length out.now ≡ name_room
     → ReverseIs table.now address.now limit r.answer end.now

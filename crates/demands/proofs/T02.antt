@@ -7,6 +7,7 @@ use lib.ListN.{length, get_or, take}
 use native.Mathlib.Omega.{arith}
 use contract.Lifetimes.{Lfts}
 use denote.Ref.{Bor}
+use denote.MutBor.{MutBor}
 use Rattle.octets.specs.Octets.{blank, Small}
 use Rattle.octets.specs.Answers.{answering, answer_by, out_by}
 use Rattle.octets.proofs.AnswerLaws.{by_number}
@@ -89,13 +90,15 @@ room_1998 v s = data_short v s.address_long (omega (arith, s.length_small))
 pub held : (v : Value) → Shaped v → value_in (value_octets v) ≡ v
 held v s = value_held v s
 
--- Four calls, by what their caller learns: A6 data is read, written in the 1998 layout, the octets that were written are read, and written as A6 data
+-- Four calls, by what their caller learns (`shown` and `handed` show to a writer what the reader before it left): A6 data is read, written in the 1998 layout, the octets that were written are read, and written as A6 data
 -- where there is room. The value is the same both times, and the last output is the standard form of the data, with zeros after it.
-module _ (first value kept : Bor (List ℕ)) (r1 : ℕ) (κ1 : Lfts 2) (l1 : a6plan-read.Learnt κ1 (first, (value, tt)) r1 (first, (kept, tt))) (done1 : r1 ≡ 0) (small : Small first.now)
-    (out end figures figured : Bor (List ℕ)) (r2 : ℕ) (κ2 : Lfts 3) (l2 : a6plan-write-1998.Learnt κ2 (kept, (out, (figures, tt))) r2 (kept, (end, (figured, tt)))) (done2 : r2 ≡ 0)
-    (second again back : Bor (List ℕ)) (r3 : ℕ) (κ3 : Lfts 2) (l3 : a6plan-read-1998.Learnt κ3 (second, (again, tt)) r3 (second, (back, tt)))
+module _ (first : Bor (List ℕ)) (value kept : MutBor (List ℕ)) (r1 : ℕ) (κ1 : Lfts 2) (l1 : a6plan-read.Learnt κ1 (first, (value, tt)) r1 (first, (kept, tt))) (done1 : r1 ≡ 0) (small : Small first.now)
+    (shown : Bor (List ℕ)) (shows : shown.now ≡ kept.now)
+    (out end figures figured : MutBor (List ℕ)) (r2 : ℕ) (κ2 : Lfts 3) (l2 : a6plan-write-1998.Learnt κ2 (shown, (out, (figures, tt))) r2 (shown, (end, (figured, tt)))) (done2 : r2 ≡ 0)
+    (second : Bor (List ℕ)) (again back : MutBor (List ℕ)) (r3 : ℕ) (κ3 : Lfts 2) (l3 : a6plan-read-1998.Learnt κ3 (second, (again, tt)) r3 (second, (back, tt)))
     (between : second.now ≡ take (get_or figured.now 0 0) end.now) (sized : length again.now ≡ value_size)
-    (last left counts counted : Bor (List ℕ)) (r4 : ℕ) (κ4 : Lfts 3) (l4 : a6plan-write.Learnt κ4 (back, (last, (counts, tt))) r4 (back, (left, (counted, tt))))
+    (handed : Bor (List ℕ)) (hands : handed.now ≡ back.now)
+    (last left counts counted : MutBor (List ℕ)) (r4 : ℕ) (κ4 : Lfts 3) (l4 : a6plan-write.Learnt κ4 (handed, (last, (counts, tt))) r4 (handed, (left, (counted, tt))))
     (two : length counts.now ≡ 2) (room : length (standard_data first.now) ≤ length last.now) where
   abbrev v : Value
   v = value_of first.now
@@ -113,12 +116,12 @@ module _ (first value kept : Bor (List ℕ)) (r1 : ℕ) (κ1 : Lfts 2) (l1 : a6p
   kept_is : kept.now ≡ value_octets v
   kept_is = in_slice r1 (length value.now) done1 (read_zero (length value.now) (read_number first.now) (sym l1.0 ∙ done1)).0 l1.1
 
-  taken : value_in kept.now ≡ v
-  taken = ap value_in kept_is ∙ value_held v shaped
+  taken : value_in shown.now ≡ v
+  taken = ap value_in (shows ∙ kept_is) ∙ value_held v shaped
 
   -- written in the 1998 layout
   written : draft_write_number v (length out.now) ≡ 0
-  written = ap (λ (x : Value). draft_write_number x (length out.now)) (sym taken) ∙ (write_zero (length kept.now) (length figures.now) _ (sym l2.0 ∙ done2)).1
+  written = ap (λ (x : Value). draft_write_number x (length out.now)) (sym taken) ∙ (write_zero (length shown.now) (length figures.now) _ (sym l2.0 ∙ done2)).1
 
   crossed : second.now ≡ in1998 v (length out.now)
   unfolding out_by
@@ -153,13 +156,13 @@ module _ (first value kept : Bor (List ℕ)) (r1 : ℕ) (κ1 : Lfts 2) (l1 : a6p
   number : write_number v (length last.now) ≡ 0
   number = write_done v (data_of v) (length last.now) (a6_layout.read_writable first.now small read) (rw data_is room)
 
-  out_of : value_in back.now ≡ v
-  out_of = ap value_in back_is ∙ value_held v shaped
+  out_of : value_in handed.now ≡ v
+  out_of = ap value_in (hands ∙ back_is) ∙ value_held v shaped
 
   done4 : r4 ≡ 0
   done4 =
       l4.0
-      ∙ write_right (length back.now) (length counts.now) _ (ap length back_is ∙ value_size_lem v shaped) two
+      ∙ write_right (length handed.now) (length counts.now) _ (ap length (hands ∙ back_is) ∙ value_size_lem v shaped) two
       ∙ ap (λ (x : Value). write_number x (length last.now)) out_of ∙ number
 
   pub standard_out_lem : (r4 ≡ 0)

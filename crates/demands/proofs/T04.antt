@@ -9,6 +9,7 @@ use lib.ListN.{length, get_or}
 use native.Mathlib.Omega.{arith}
 use contract.Lifetimes.{Lfts}
 use denote.Ref.{Bor}
+use denote.MutBor.{MutBor}
 use Rattle.octets.specs.Octets.{blank}
 use Rattle.octets.specs.Answers.{earns, or_else, answer_by}
 use Rattle.octets.proofs.AnswerLaws.{refused_out, by_number}
@@ -57,17 +58,17 @@ pub check : (κs : Lfts 1) (table : Bor (List ℕ)) (r : Reply) → plan_check.L
 check κs table r l = rw l (check_placed table.now)
 
 -- so of the reply of `forward::lookup`
-pub lookup : (κs : Lfts 4) (table name out end ttls left : Bor (List ℕ)) (limit : ℕ) (r : Reply)
+pub lookup : (κs : Lfts 4) (table name : Bor (List ℕ)) (out end ttls left : MutBor (List ℕ)) (limit : ℕ) (r : Reply)
     → forward.Learnt κs (table, (name, (limit, (out, (ttls, tt))))) r (table, (name, (limit, (end, (left, tt))))) → Placed table.now r.answer.number r.fault
 lookup κs table name out end ttls left limit r l = numbered table.now _ _ _ l.0 (lookup_placed table.now name.now limit (length out.now) (length ttls.now))
 
 -- so of the reply of `reverse::lookup`
-pub reverse : (κs : Lfts 3) (table address out end : Bor (List ℕ)) (limit : ℕ) (r : Reply)
+pub reverse : (κs : Lfts 3) (table address : Bor (List ℕ)) (out end : MutBor (List ℕ)) (limit : ℕ) (r : Reply)
     → reversed.Learnt κs (table, (address, (limit, (out, tt)))) r (table, (address, (limit, (end, tt)))) → Placed table.now r.answer.number r.fault
 reverse κs table address out end limit r l = numbered table.now _ _ _ l.0 (reverse_placed table.now address.now limit (length out.now))
 
 -- so of the reply of `collapse::collapse`
-pub collapse : (κs : Lfts 3) (table name out end : Bor (List ℕ)) (r : Reply)
+pub collapse : (κs : Lfts 3) (table name : Bor (List ℕ)) (out end : MutBor (List ℕ)) (r : Reply)
     → collapsed.Learnt κs (table, (name, (out, tt))) r (table, (name, (end, tt))) → Placed table.now r.answer.number r.fault
 collapse κs table name out end r l = numbered table.now _ _ _ l.0 (collapse_placed table.now name.now (length out.now))
 
@@ -77,7 +78,7 @@ abbrev pub place_at : List ℕ → ℕ → Fault
 place_at figures at = record { index = get_or figures at 0; field = get_or figures (at + 1) 0 }
 
 -- of the number of `a6plan_check` and its two figures: at 2 and at 3 they are the place, and with any other number zeros
-pub export_check : (κs : Lfts 2) (table figures figured : Bor (List ℕ)) (r : ℕ)
+pub export_check : (κs : Lfts 2) (table : Bor (List ℕ)) (figures figured : MutBor (List ℕ)) (r : ℕ)
     → a6plan-check.Learnt κs (table, (figures, tt)) r (table, (figured, tt)) → length figures.now ≡ 2 → Placed table.now r (place_at figured.now 0)
 export_check κs table figures figured r l h =
     let t = table.now in
@@ -91,21 +92,21 @@ four : (t : List ℕ) (n k count work r : ℕ) {figures : List ℕ} → r ≡ ex
 four t n k count work r e f h p = rw (e ∙ exported_fit of_table n k h, f ∙ sym (placed_all _ n h)) p
 
 -- so of the number of `a6plan_lookup` and the last two of its four figures
-pub export_lookup : (κs : Lfts 5) (table name : Bor (List ℕ)) (limit : ℕ) (out end ttls left figures figured : Bor (List ℕ)) (r : ℕ)
+pub export_lookup : (κs : Lfts 5) (table name : Bor (List ℕ)) (limit : ℕ) (out end ttls left figures figured : MutBor (List ℕ)) (r : ℕ)
     → a6plan-lookup.Learnt κs (table, (name, (limit, (out, (ttls, (figures, tt)))))) r (table, (name, (limit, (end, (left, (figured, tt))))))
     → length figures.now ≡ 4 → Placed table.now r (place_at figured.now 2)
 export_lookup κs table name limit out end ttls left figures figured r l h =
     four table.now _ _ _ _ r l.0 l.1.1.1 h (lookup_placed table.now name.now limit (length out.now) (length ttls.now))
 
 -- so of `a6plan_reverse`
-pub export_reverse : (κs : Lfts 4) (table address : Bor (List ℕ)) (limit : ℕ) (out end figures figured : Bor (List ℕ)) (r : ℕ)
+pub export_reverse : (κs : Lfts 4) (table address : Bor (List ℕ)) (limit : ℕ) (out end figures figured : MutBor (List ℕ)) (r : ℕ)
     → a6plan-reverse.Learnt κs (table, (address, (limit, (out, (figures, tt))))) r (table, (address, (limit, (end, (figured, tt)))))
     → length figures.now ≡ 4 → Placed table.now r (place_at figured.now 2)
 export_reverse κs table address limit out end figures figured r l h =
     four table.now _ _ _ _ r l.0 l.1.1 h (reverse_placed table.now address.now limit (length out.now))
 
 -- so of `a6plan_collapse`
-pub export_collapse : (κs : Lfts 4) (table name : Bor (List ℕ)) (out end figures figured : Bor (List ℕ)) (r : ℕ)
+pub export_collapse : (κs : Lfts 4) (table name : Bor (List ℕ)) (out end figures figured : MutBor (List ℕ)) (r : ℕ)
     → a6plan-collapse.Learnt κs (table, (name, (out, (figures, tt)))) r (table, (name, (end, (figured, tt))))
     → length figures.now ≡ 4 → Placed table.now r (place_at figured.now 2)
 export_collapse κs table name out end figures figured r l h =
@@ -117,13 +118,13 @@ refuses_five zero e = omega arith
 refuses_five (suc k) e = omega arith
 
 -- `a6plan_check` with figures that are not two gives what the table earns, or else 5, and zeros in all that was lent
-pub misfit_check : (κs : Lfts 2) (table figures figured : Bor (List ℕ)) (r : ℕ)
+pub misfit_check : (κs : Lfts 2) (table : Bor (List ℕ)) (figures figured : MutBor (List ℕ)) (r : ℕ)
     → a6plan-check.Learnt κs (table, (figures, tt)) r (table, (figured, tt)) → (length figures.now ≡ 2 → ⊥)
     → (r ≡ or_else (check_of table.now) 5) × (figured.now ≡ blank (length figures.now))
 misfit_check κs table figures figured r l h = (l.0 ∙ fifth_check table.now (length figures.now) h, l.1 ∙ sym (placed_none _ _ h))
 
 -- `a6plan_lookup` with figures that are not four gives what the table and the name earn, or else 5, and zeros in all that was lent
-pub misfit_lookup : (κs : Lfts 5) (table name : Bor (List ℕ)) (limit : ℕ) (out end ttls left figures figured : Bor (List ℕ)) (r : ℕ)
+pub misfit_lookup : (κs : Lfts 5) (table name : Bor (List ℕ)) (limit : ℕ) (out end ttls left figures figured : MutBor (List ℕ)) (r : ℕ)
     → a6plan-lookup.Learnt κs (table, (name, (limit, (out, (ttls, (figures, tt)))))) r (table, (name, (limit, (end, (left, (figured, tt)))))) → (length figures.now ≡ 4 → ⊥)
     → (r ≡ or_else (entry_number table.now name.now) 5)
     × (end.now ≡ blank (length out.now)) × (left.now ≡ blank (length ttls.now)) × (figured.now ≡ blank (length figures.now))
@@ -133,7 +134,7 @@ misfit_lookup κs table name limit out end ttls left figures figured r l h =
     (e, l.1.0 ∙ sym (refused_out r r refl z _ _), l.1.1.0 ∙ sym (refused_out r r refl z _ _), l.1.1.1 ∙ sym (placed_none _ _ h))
 
 -- `a6plan_reverse` with figures that are not four gives what the table earns, or else 4 for the address, or else 5, and zeros in all that was lent
-pub misfit_reverse : (κs : Lfts 4) (table address : Bor (List ℕ)) (limit : ℕ) (out end figures figured : Bor (List ℕ)) (r : ℕ)
+pub misfit_reverse : (κs : Lfts 4) (table address : Bor (List ℕ)) (limit : ℕ) (out end figures figured : MutBor (List ℕ)) (r : ℕ)
     → a6plan-reverse.Learnt κs (table, (address, (limit, (out, (figures, tt))))) r (table, (address, (limit, (end, (figured, tt))))) → (length figures.now ≡ 4 → ⊥)
     → (r ≡ or_else (or_else (check_of table.now) (earns (not (eqb (length address.now) address_size)) 4 0)) 5)
     × (end.now ≡ blank (length out.now)) × (figured.now ≡ blank (length figures.now))
@@ -142,7 +143,7 @@ misfit_reverse κs table address limit out end figures figured r l h =
     (e, l.1.0 ∙ sym (refused_out r r refl (λ f. refuses_five (or_else (check_of table.now) (earns (not (eqb (length address.now) address_size)) 4 0)) (sym e ∙ f)) _ _), l.1.1 ∙ sym (placed_none _ _ h))
 
 -- `a6plan_collapse` with figures that are not four gives what the table and the name earn, or else 5, and zeros in all that was lent
-pub misfit_collapse : (κs : Lfts 4) (table name : Bor (List ℕ)) (out end figures figured : Bor (List ℕ)) (r : ℕ)
+pub misfit_collapse : (κs : Lfts 4) (table name : Bor (List ℕ)) (out end figures figured : MutBor (List ℕ)) (r : ℕ)
     → a6plan-collapse.Learnt κs (table, (name, (out, (figures, tt)))) r (table, (name, (end, (figured, tt)))) → (length figures.now ≡ 4 → ⊥)
     → (r ≡ or_else (entry_number table.now name.now) 5) × (end.now ≡ blank (length out.now)) × (figured.now ≡ blank (length figures.now))
 misfit_collapse κs table name out end figures figured r l h =
@@ -150,11 +151,11 @@ misfit_collapse κs table name out end figures figured r l h =
     (e, l.1.0 ∙ sym (refused_out r r refl (λ f. refuses_five (entry_number table.now name.now) (sym e ∙ f)) _ _), l.1.1 ∙ sym (placed_none _ _ h))
 
 -- `a6plan_standard` with figures that are not two gives 4 for a malformed name, or else 5; all that was lent is zero (`export_standard_clears`)
-pub misfit_standard : (κs : Lfts 3) (name out end figures figured : Bor (List ℕ)) (r : ℕ)
+pub misfit_standard : (κs : Lfts 3) (name : Bor (List ℕ)) (out end figures figured : MutBor (List ℕ)) (r : ℕ)
     → a6plan-standard.Learnt κs (name, (out, (figures, tt))) r (name, (end, (figured, tt))) → (length figures.now ≡ 2 → ⊥) → r ≡ earns (not (well_formed name.now)) 4 5
 misfit_standard κs name out end figures figured r l h = l.0 ∙ fifth_standard name.now (length out.now) (length figures.now) h
 
 -- `a6plan_owner` with figures that are not two gives 5; all that was lent is zero (`export_owner_clears`)
-pub misfit_owner : (κs : Lfts 2) (table : Bor (List ℕ)) (index : ℕ) (figures figured : Bor (List ℕ)) (r : ℕ)
+pub misfit_owner : (κs : Lfts 2) (table : Bor (List ℕ)) (index : ℕ) (figures figured : MutBor (List ℕ)) (r : ℕ)
     → a6plan-owner.Learnt κs (table, (index, (figures, tt))) r (table, (index, (figured, tt))) → (length figures.now ≡ 2 → ⊥) → r ≡ 5
 misfit_owner κs table index figures figured r l h = l.0 ∙ fifth_owner (length figures.now) h

@@ -11,6 +11,7 @@ use lib.Seq.{take-append_seam}
 use native.Mathlib.Omega.{arith}
 use contract.Lifetimes.{Lfts}
 use denote.Ref.{Bor}
+use denote.MutBor.{MutBor}
 use borrow.Author.Tests.{not-false, le-ltb}
 use Rattle.octets.specs.Octets.{blank, Small, among}
 use Rattle.octets.specs.declared.Answer.{Answer}
@@ -66,7 +67,7 @@ address_found = texts.address_found
 -- a name in standard form that was written into a line, before something that may not stand in one, is read from its place
 pub name_found_lem : (before name rest : List ℕ) → Small name → in_standard_form name ≡ true → leading may_name rest ≡ 0
     → ◌≡◌ {A = Named} (name_at (before ++ (text_of name ++ rest)) (length before)) (record { number = 0; name = name_of name; next = length before + length (text_of name) })
-name_found_lem = names.name_found
+name_found_lem = names.name_found_lem
 
 -- the text of an address is one that RFC 5952 allows, and the only one
 pub rfc_5952 : (a : List ℕ) → length a ≡ 16 → Small a → Rfc5952 a (write_address a) × ((text : List ℕ) → Rfc5952 a text → text ≡ write_address a)
@@ -152,8 +153,8 @@ module _ (row : List ℕ) (room : ℕ) (e : write_line_number row room ≡ 0) wh
 
 -- Two calls, by what their caller learns: a record is written as a line, and the octets that were written are read with room for a record. `Small` is what
 -- the type of octets gives.
-module _ (row out end : Bor (List ℕ)) (r1 : Answer) (κ1 : Lfts 2) (l1 : write_line.Learnt κ1 (row, (out, tt)) r1 (row, (end, tt))) (done1 : r1.number ≡ 0) (small : Small row.now)
-    (line room left : Bor (List ℕ)) (r2 : Answer) (κ2 : Lfts 2) (l2 : read_line.Learnt κ2 (line, (room, tt)) r2 (line, (left, tt)))
+module _ (row : Bor (List ℕ)) (out end : MutBor (List ℕ)) (r1 : Answer) (κ1 : Lfts 2) (l1 : write_line.Learnt κ1 (row, (out, tt)) r1 (row, (end, tt))) (done1 : r1.number ≡ 0) (small : Small row.now)
+    (line : Bor (List ℕ)) (room left : MutBor (List ℕ)) (r2 : Answer) (κ2 : Lfts 2) (l2 : read_line.Learnt κ2 (line, (room, tt)) r2 (line, (left, tt)))
     (between : line.now ≡ take r1.count end.now) (sized : record_size ≤ length room.now) where
   written : write_line_number row.now (length out.now) ≡ 0
   written = sym (by_number (write_line_number row.now (length out.now)) _ _) ∙ ap (λ (a : Answer). a.number) (sym l1.0) ∙ done1
@@ -168,8 +169,8 @@ module _ (row out end : Bor (List ℕ)) (r1 : Answer) (κ1 : Lfts 2) (l1 : write
       (l2.0 ∙ ap (λ (xs : List ℕ). read_line_answer xs (length room.now)) crossed ∙ w.0, l2.1 ∙ ap (λ (xs : List ℕ). read_line_out xs (length room.now)) crossed ∙ w.1)
 
 -- The same two calls of the exports, where the figures of the second are two.
-module _ (row out end figures figured : Bor (List ℕ)) (r1 : ℕ) (κ1 : Lfts 3) (l1 : a6plan-write-line.Learnt κ1 (row, (out, (figures, tt))) r1 (row, (end, (figured, tt)))) (done1 : r1 ≡ 0)
-    (small : Small row.now) (line room left counts counted : Bor (List ℕ)) (r2 : ℕ) (κ2 : Lfts 3) (l2 : a6plan-read-line.Learnt κ2 (line, (room, (counts, tt))) r2 (line, (left, (counted, tt))))
+module _ (row : Bor (List ℕ)) (out end figures figured : MutBor (List ℕ)) (r1 : ℕ) (κ1 : Lfts 3) (l1 : a6plan-write-line.Learnt κ1 (row, (out, (figures, tt))) r1 (row, (end, (figured, tt)))) (done1 : r1 ≡ 0)
+    (small : Small row.now) (line : Bor (List ℕ)) (room left counts counted : MutBor (List ℕ)) (r2 : ℕ) (κ2 : Lfts 3) (l2 : a6plan-read-line.Learnt κ2 (line, (room, (counts, tt))) r2 (line, (left, (counted, tt))))
     (between : line.now ≡ take (get_or figured.now 0 0) end.now) (sized : record_size ≤ length room.now) (two : length counts.now ≡ 2) where
   exported : write_line_number row.now (length out.now) ≡ 0
   exported = (exported_zero of_line refuses_line (length figures.now) (write_line_number row.now (length out.now)) (sym l1.0 ∙ done1)).1
@@ -203,11 +204,11 @@ module _ (row out end figures figured : Bor (List ℕ)) (r1 : ℕ) (κ1 : Lfts 3
 
 -- ---- figures of another length
 -- `a6plan_write_line` with figures that are not two gives 5 for every record and output; all that was lent is zero (`export_write_line_clears`)
-pub misfit_write_line : (κs : Lfts 3) (row out end figures figured : Bor (List ℕ)) (r : ℕ)
+pub misfit_write_line : (κs : Lfts 3) (row : Bor (List ℕ)) (out end figures figured : MutBor (List ℕ)) (r : ℕ)
     → a6plan-write-line.Learnt κs (row, (out, (figures, tt))) r (row, (end, (figured, tt))) → (length figures.now ≡ 2 → ⊥) → r ≡ 5
 misfit_write_line κs row out end figures figured r l h = l.0 ∙ fifth_line (length figures.now) (write_line_number row.now (length out.now)) h
 
 -- so does `a6plan_read_line`, for every line and output (`export_read_line_clears`)
-pub misfit_read_line : (κs : Lfts 3) (line out end figures figured : Bor (List ℕ)) (r : ℕ)
+pub misfit_read_line : (κs : Lfts 3) (line : Bor (List ℕ)) (out end figures figured : MutBor (List ℕ)) (r : ℕ)
     → a6plan-read-line.Learnt κs (line, (out, (figures, tt))) r (line, (end, (figured, tt))) → (length figures.now ≡ 2 → ⊥) → r ≡ 5
 misfit_read_line κs line out end figures figured r l h = l.0 ∙ fifth_line (length figures.now) (read_line_number line.now (length out.now)) h

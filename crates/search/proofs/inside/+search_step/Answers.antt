@@ -47,7 +47,7 @@ search-step-s-requires t c =
     let e = same_unused q c.requires.fit c.loop-i.invariant c.loop-i-test.true in (
       omega (arith, c.decreases, ap free e),
       going_ready q c.requires.fit c.loop-i.invariant c.loop-i-test.true (address_length c.args.high c.args.low)
-          (omega (arith, c.length_in.ensures, c.if-length_in-bound.true)) (omega (arith, c.if-s-eq0.false)),
+          (omega (arith, c.length_in.ensures, c.if-length_in-bound.true)) (omega arith),
     )
 
 pub search-loop-i-smaller : goal.search-loop-i-smaller

@@ -1,12 +1,11 @@
 -- `search::inside::find` meets its contract: the search begins with every record in its list, and what it leaves is the answer.
 use Prim.Native.Nat.{ℕ, suc, ◌+◌, ◌*◌, ◌/◌, ◌<◌}
 use mathlib.Core.Path.{◌≡◌, ap, sym, ◌∙◌}
-use mathlib.Core.List.{List}
+use Rattle.std.proofs.Common.{◌≢◌}
 use native.Mathlib.Omega.{arith}
-use lib.ListN.{length}
+use lib.ListN.{length, get_or}
 use borrow.Author.Tests.{eq-eqb, ne_eqb}
 use Rattle.octets.specs.Octets.{blank}
-use Rattle.octets.specs.declared.Answer.{Answer}
 use Rattle.octets.specs.Answers.{refusal}
 use Rattle.octets.proofs.AnswerLaws.{not_nought, refused_answer, refused_out}
 use Rattle.chains.specs.Graph.{Graph, max_ttl}
@@ -57,14 +56,14 @@ lives_kept c =
     c.search-left.auto.lives ∙ y
 
 -- a refusal, with zeros in both lists
-refused : (c : After-search-left) (k : ℕ) → number c ≡ suc k → (r : Answer) (out lives : List ℕ)
-    → (r ≡ refusal (suc k)) × (out ≡ blank (length (after c).out)) × (lives ≡ blank (length (after c).lives))
-    → (r ≡ answer_of (graph c) c.args.x (number c))
-    × (out ≡ output_of (graph c) c.args.x (number c) (length c.args.out.now)) × (lives ≡ lives_of (graph c) c.args.x (number c) (room c))
-refused c k e r out lives h = (
-  h.0 ∙ refused_answer (suc k) _ (sym e) (not_nought k) _ _,
-  h.1 ∙ ap blank (out_kept c) ∙ refused_out (suc k) _ (sym e) (not_nought k) _ (length c.args.out.now),
-  h.2 ∙ ap blank (lives_kept c) ∙ refused_out (suc k) _ (sym e) (not_nought k) _ (room c),
+refused : (c : After-search-left) (k : ℕ) → number c ≡ suc k
+    → (refusal (suc k) ≡ answer_of (graph c) c.args.x (number c))
+    × (blank (length (after c).out) ≡ output_of (graph c) c.args.x (number c) (length c.args.out.now))
+    × (blank (length (after c).lives) ≡ lives_of (graph c) c.args.x (number c) (room c))
+refused c k e = (
+  refused_answer (suc k) _ (sym e) (not_nought k) _ _,
+  ap blank (out_kept c) ∙ refused_out (suc k) _ (sym e) (not_nought k) _ (length c.args.out.now),
+  ap blank (lives_kept c) ∙ refused_out (suc k) _ (sym e) (not_nought k) _ (room c),
 )
 
 pub search-left-requires : goal.search-left-requires
@@ -81,33 +80,38 @@ search-left-requires c =
 pub returns-then-left-eq0 : goal.returns-then-left-eq0
 returns-then-left-eq0 c =
     let s = (goal.at.returns-then-left-eq0 c).After-search-left in
-    let y = refused s 5 (found_over (graph s) (sound s) c.args.x c.args.limit (room s) _ (ran s) c.if-left-eq0.true) _ _ _ c.refuse.ensures in
-    record { value = y.0; out_after = y.1; lives_after = y.2 }
+    let z : c.search-left.result ≡ 0 = omega arith in
+    let y = refused s 5 (found_over (graph s) (sound s) c.args.x c.args.limit (room s) _ (ran s) z) in
+    record { value = cc (y.0); out_after = cc (y.1); lives_after = cc (y.2) }
 
 pub returns-then-full-eq1 : goal.returns-then-full-eq1
 returns-then-full-eq1 c =
     let s = (goal.at.returns-then-full-eq1 c).After-search-left in
-    let e = found_full (graph s) (sound s) c.args.x c.args.limit (room s) _ (ran s) (omega (arith, c.if-left-eq0.false)) (eq-eqb _ 1 c.if-full-eq1.true) in
-    let y = refused s 6 e _ _ _ c.refuse-then-full-eq1.ensures in
-    record { value = y.0; out_after = y.1; lives_after = y.2 }
+    let w : 0 < c.search-left.result = omega arith in
+    let e : get_or c.search-left.new.figures 1 0 ≡ 1 = omega arith in
+    let y = refused s 6 (found_full (graph s) (sound s) c.args.x c.args.limit (room s) _ (ran s) w (eq-eqb _ 1 e)) in
+    record { value = cc (y.0); out_after = cc (y.1); lives_after = cc (y.2) }
 
 -- neither: chains are left to count, and there was room
 pub overflow_cast-found : goal.overflow_cast-found
 overflow_cast-found c =
     let s = (goal.at.overflow_cast-found c).After-search-left in
-    omega (arith, found_few (graph s) (sound s) c.args.x c.args.limit (room s) _ (ran s) (omega (arith, c.if-left-eq0.false)) (ne_eqb _ 1 c.if-full-eq1.false))
+    let w : 0 < c.search-left.result = omega arith in
+    let e : get_or c.search-left.new.figures 1 0 ≢ 1 = omega arith in
+    omega (arith, found_few (graph s) (sound s) c.args.x c.args.limit (room s) _ (ran s) w (ne_eqb _ 1 e))
 
 pub overflow_sub-spent : goal.overflow_sub-spent
 overflow_sub-spent c =
     let s = (goal.at.overflow_sub-spent c).After-search-left in
-    found_left (graph s) (sound s) c.args.x c.args.limit (room s) _ (ran s) (omega (arith, c.if-left-eq0.false))
+    found_left (graph s) (sound s) c.args.x c.args.limit (room s) _ (ran s) (omega arith)
 
 pub returns : goal.returns
 returns c =
     let s = (goal.at.returns c).After-search-left in
     let r = ran s in
-    let w : 0 < c.search-left.result = omega (arith, c.if-left-eq0.false) in
-    let f = ne_eqb _ 1 c.if-full-eq1.false in
+    let w : 0 < c.search-left.result = omega arith in
+    let e : get_or c.search-left.new.figures 1 0 ≢ 1 = omega arith in
+    let f = ne_eqb _ 1 e in
     let q : room s * 16 ≡ length c.args.out.now = omega (arith, c.requires.out_len.0) in
     record {
       value = found_answer (graph s) (sound s) c.args.x c.args.limit (room s) _ r w f;
