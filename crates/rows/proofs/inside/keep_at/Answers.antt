@@ -1,4 +1,4 @@
--- `rows::inside::keep_at_lem` meets its contract, case by case.
+-- `rows::inside::keep_at` meets its contract, case by case.
 use Rattle.std.proofs.Common.{◌≡◌, ℕ, ◌+◌, ◌<◌, false, List, get_or, sym, ap, ◌∙◌, arith, length-set, get_or-set_other, get_or-set_same}
 use Rattle.address.specs.Order.{order_of}
 use Rattle.rows.specs.Halves.{address_of}
