@@ -12,7 +12,7 @@
 // Any other line is printed as it is. The stored script has the examples of RFC 2874, section 5, of 01, of T-03 and of T-04.
 #![tactic(auto)]
 
-ghost use Rattle.std.specs.Prelude.{◌≡◌, ◌+◌, ◌≤◌, length, IfOk};
+ghost use Rattle.std.specs.Prelude.{◌≡◌, ◌+◌, ◌≤◌, length, IfOk, OnErr};
 ghost use Rattle.plan.specs.Layout.{record_size};
 
 use std::io;
@@ -84,7 +84,8 @@ fn line(
     size: usize,
 ) -> io::Result<usize>
     requires { (size ≤ length table.old) × (length kept.old ≡ length table.old) }
-    ensures { IfOk result (λ n. n ≤ length table.old) }
+    ensures ok { IfOk result (λ n. n ≤ length table.old) }
+    ensures err { OnErr result ((table.new ≡ table.old) × (kept.new ≡ kept.old)) }
 {
     let verb = text::verb(line);
     if verb <= text::DNAME {
@@ -111,6 +112,7 @@ fn tell(
     size: usize,
 ) -> io::Result<()>
     requires { (size ≤ length table.now) × (length kept.old ≡ length table.now) }
+    ensures { OnErr result (kept.new ≡ kept.old) }
 {
     if verb == text::KEEP {
         octets::inside::copy(table, 0, table.len(), kept, 0);
@@ -145,7 +147,8 @@ fn add(
     size: usize,
 ) -> io::Result<usize>
     requires { size ≤ length table.old }
-    ensures { IfOk result (λ n. n ≤ length table.old) }
+    ensures ok { IfOk result (λ n. n ≤ length table.old) }
+    ensures err { OnErr result (table.new ≡ table.old) }
 {
     if table.len() - size < plan::inside::RECORD {
         print::line(rt, b"no room for a record")?;
@@ -198,7 +201,8 @@ fn put_dname(line: &[u8], table: &mut [u8], size: usize)
 // The plan with a name folded in place of the plan; its size. A refusal leaves the plan as it is.
 fn collapse(rt: &impl Print, line: &[u8], table: &mut [u8], size: usize) -> io::Result<usize>
     requires { size ≤ length table.old }
-    ensures { IfOk result (λ n. n ≤ length table.old) }
+    ensures ok { IfOk result (λ n. n ≤ length table.old) }
+    ensures err { OnErr result (table.new ≡ table.old) }
 {
     let slot = text::slot(line, 1);
     let mut made = [0u8; TABLE];
