@@ -24,25 +24,37 @@ long c = ap length c.owner-part.ensures.contents ∙ part_long c.args.table.now 
 small : (c : After-owner-part) → (part c).offset + (part c).length ≤ max_records * record_size
 small c = part_small c.args.table.now c.args.index
 
+abbrev owner_part_of_owner_place_offset : After-owner_place-offset → After-owner-part
+owner_part_of_owner_place_offset c = record { before = c.before.before; type_inv = record { figures = c.slice_known-1.given; table = c.shared_slice_known-1.given } }
+
 -- and its place
-place : (c : After-owner_place-offset) → c.owner_place-offset.result ≡ (part record { before = c.before.before; type_inv = record { figures = c.slice_known-1.given; table = c.shared_slice_known-1.given } }).offset
+place : (c : After-owner_place-offset) → c.owner_place-offset.result ≡ (part (owner_part_of_owner_place_offset c)).offset
 place c =
     let i = c.args.index in
-    c.owner_place-offset.ensures ∙ ap (λ (n : ℕ). pick (eqb n 0) 0 (i * record_size + (owner_place + 1))) (long record { before = c.before.before; type_inv = record { figures = c.slice_known-1.given; table = c.shared_slice_known-1.given } }) ∙ sym (part_place c.args.table.now i).0
+    c.owner_place-offset.ensures ∙ ap (λ (n : ℕ). pick (eqb n 0) 0 (i * record_size + (owner_place + 1))) (long (owner_part_of_owner_place_offset c))
+    ∙ sym (part_place c.args.table.now i).0
 
 pub owner_place-offset-requires : goal.owner_place-offset-requires
 owner_place-offset-requires c = λ h. (part_place c.args.table.now c.args.index).1 (λ e. h (long c ∙ e))
 
 pub overflow_cast-answer-2 : goal.overflow_cast-answer-2
-overflow_cast-answer-2 c = omega (arith, long (goal.at.overflow_cast-answer-2 c).After-owner-part, small (goal.at.overflow_cast-answer-2 c).After-owner-part)
+overflow_cast-answer-2 c =
+    let here = (goal.at.overflow_cast-answer-2 c).After-owner-part in
+    omega (arith, long here, small here)
 
 pub figure-requires : goal.figure-requires
 figure-requires c = refuses_part
 
 pub returns : goal.returns
 returns c =
+    let owner_place_offset = (goal.at.returns c).After-owner_place-offset in
+    let at_owner_part = (goal.at.returns c).After-owner-part in
     let f = c.figure in
-    let n = length c.args.figures.now in record { number = f.ensures.number; figured = f.ensures.figured ∙ λ i. exported_figures f.result (answering (place (goal.at.returns c).After-owner_place-offset i) (long (goal.at.returns c).After-owner-part i)) n }
+    let n = length c.args.figures.now in
+    record {
+      number = f.ensures.number;
+      figured = f.ensures.figured ∙ λ i. exported_figures f.result (answering (place owner_place_offset i) (long at_owner_part i)) n;
+    }
 
 pub overflow_cast-answer : goal.overflow_cast-answer
 overflow_cast-answer c = omega (arith, place c, small (goal.at.overflow_cast-answer c).After-owner-part)

@@ -27,7 +27,9 @@ two : (c : After-exported-number) → c.exported-number.result ≡ 0 → length 
 two c h = c.clear.auto.list ∙ (exported_zero (figured c) c.requires (places c) (number c) (sym (told c) ∙ h)).0
 
 pub returns-then-number-ne0 : goal.returns-then-number-ne0
-returns-then-number-ne0 c = record { number = told (goal.at.returns-then-number-ne0 c).After-exported-number; figured = c.clear.ensures ∙ refused_out c.exported-number.result _ refl c.if-number-ne0.true _ (places (goal.at.returns-then-number-ne0 c).After-exported-number) }
+returns-then-number-ne0 c =
+    let here = (goal.at.returns-then-number-ne0 c).After-exported-number in
+    record { number = told here; figured = c.clear.ensures ∙ refused_out c.exported-number.result _ refl c.if-number-ne0.true _ (places here) }
 
 pub bounds-figures-0 : goal.bounds-figures-0
 bounds-figures-0 c = omega (arith, two (goal.at.bounds-figures-0 c).After-exported-number c.if-number-ne0.false)
@@ -37,6 +39,11 @@ bounds-figures-1 c = simp length-set (omega (arith, two (goal.at.bounds-figures-
 
 pub returns : goal.returns
 returns c =
+    let here = (goal.at.returns c).After-exported-number in
     let a = c.args.answer in
-    let t = two (goal.at.returns c).After-exported-number c.if-number-ne0.false in
-    let o = c.clear in record { number = sym c.if-number-ne0.false ∙ told (goal.at.returns c).After-exported-number; figured = figures_written a.count a.work o.new.list t ∙ full_out (a.count ∷ a.work ∷ []) (places (goal.at.returns c).After-exported-number) (sym t ∙ o.auto.list) }
+    let t = two here c.if-number-ne0.false in
+    let o = c.clear in
+    record {
+      number = sym c.if-number-ne0.false ∙ told here;
+      figured = figures_written a.count a.work o.new.list t ∙ full_out (a.count ∷ a.work ∷ []) (places here) (sym t ∙ o.auto.list);
+    }

@@ -35,21 +35,30 @@ rest c = drop c.args.found.rest (rdata c)
 part : (c : Else-told-ne0) → take (length (rdata c) - c.args.found.rest) (rest c) ≡ rest c
 part c = part_rest (rdata c) c.args.found.rest
 
+abbrev else_told_ne0 : After-put_address → Else-told-ne0
+else_told_ne0 c = record { before = c.before.before.before; type_inv = record { value = c.slice_known-1.given; rdata = c.shared_slice_known-1.given } }
+
 abbrev with_address_lem : After-put_address → List ℕ
-with_address_lem c = addressed (zeroed record { before = c.before.before.before; type_inv = record { value = c.slice_known-1.given; rdata = c.shared_slice_known-1.given } }) c.put_address.new.out
+with_address_lem c = addressed (zeroed (else_told_ne0 c)) c.put_address.new.out
 
 sixteen : (c : After-put_address) → length c.put_address.new.out ≡ 16
-sixteen c = c.put_address.auto.out ∙ ap length (address_blank (zeroed record { before = c.before.before.before; type_inv = record { value = c.slice_known-1.given; rdata = c.shared_slice_known-1.given } }) (zeros record { before = c.before.before.before; type_inv = record { value = c.slice_known-1.given; rdata = c.shared_slice_known-1.given } })) ∙ length_blank 16
+sixteen c = c.put_address.auto.out ∙ ap length (address_blank (zeroed (else_told_ne0 c)) (zeros (else_told_ne0 c))) ∙ length_blank 16
 
 name_room_lem : (c : After-put_address) → take (length (with_address_lem c) - 18) (drop 18 (with_address_lem c)) ≡ blank 255
-name_room_lem c = name_blank (zeroed record { before = c.before.before.before; type_inv = record { value = c.slice_known-1.given; rdata = c.shared_slice_known-1.given } }) c.put_address.new.out (zeros record { before = c.before.before.before; type_inv = record { value = c.slice_known-1.given; rdata = c.shared_slice_known-1.given } }) (sixteen c)
+name_room_lem c = name_blank (zeroed (else_told_ne0 c)) c.put_address.new.out (zeros (else_told_ne0 c)) (sixteen c)
+
+abbrev put_address : After-put_name-length → After-put_address
+put_address c = record { before = c.before.before.before.before.before.before; type_inv = record { rdata = c.shared_slice_known-1.given } }
 
 long : (c : After-put_name-length) → length c.put_name-length.new.out ≡ 255
-long c = c.put_name-length.auto.out ∙ ap length (name_room_lem record { before = c.before.before.before.before.before.before; type_inv = record { rdata = c.shared_slice_known-1.given } }) ∙ length_blank 255
+long c = c.put_name-length.auto.out ∙ ap length (name_room_lem (put_address c)) ∙ length_blank 255
 
-all : (c : After-put_name-length) → length (named (with_address_lem record { before = c.before.before.before.before.before.before; type_inv = record { rdata = c.shared_slice_known-1.given } }) c.put_name-length.new.out) ≡ value_size
+abbrev else_told_ne0_of_put_name_length : After-put_name-length → Else-told-ne0
+else_told_ne0_of_put_name_length c = record { before = c.before.before.before.before.before.before.before.before; type_inv = record { value = c.slice_known-1.given; rdata = c.shared_slice_known-1.given } }
+
+all : (c : After-put_name-length) → length (named (with_address_lem (put_address c)) c.put_name-length.new.out) ≡ value_size
 all c =
-    value_long (zeroed record { before = c.before.before.before.before.before.before.before.before; type_inv = record { value = c.slice_known-1.given; rdata = c.shared_slice_known-1.given } }) c.put_address.new.out (zeros record { before = c.before.before.before.before.before.before.before.before; type_inv = record { value = c.slice_known-1.given; rdata = c.shared_slice_known-1.given } }) (sixteen record { before = c.before.before.before.before.before.before; type_inv = record { rdata = c.shared_slice_known-1.given } }) c.put_name-length.new.out (long c)
+    value_long (zeroed (else_told_ne0_of_put_name_length c)) c.put_address.new.out (zeros (else_told_ne0_of_put_name_length c)) (sixteen (put_address c)) c.put_name-length.new.out (long c)
 
 pub returns-then-told-ne0 : goal.returns-then-told-ne0
 returns-then-told-ne0 c =
@@ -61,8 +70,9 @@ slice_bounds-put_address-end c = omega (arith, ap length (zeros c) ∙ length_bl
 
 pub put_address-requires : goal.put_address-requires
 put_address-requires c =
-    let s = sound (goal.at.put_address-requires c).Else-told-ne0 in
-    (s.low, s.suffix_inside, address_blank (zeroed (goal.at.put_address-requires c).Else-told-ne0) (zeros (goal.at.put_address-requires c).Else-told-ne0))
+    let here = (goal.at.put_address-requires c).Else-told-ne0 in
+    let s = sound here in
+    (s.low, s.suffix_inside, address_blank (zeroed here) (zeros here))
 
 pub slice_bounds-put_name-count : goal.slice_bounds-put_name-count
 slice_bounds-put_name-count c = omega (arith, (sound (goal.at.slice_bounds-put_name-count c).Else-told-ne0).rest_inside)
@@ -71,15 +81,26 @@ pub slice_bounds-put_name-start : goal.slice_bounds-put_name-start
 slice_bounds-put_name-start c = omega (arith, (sound (goal.at.slice_bounds-put_name-start c).Else-told-ne0).rest_inside)
 
 pub slice_bounds-put_name-count-2 : goal.slice_bounds-put_name-count-2
-slice_bounds-put_name-count-2 c = omega (arith, address_long (zeroed (goal.at.slice_bounds-put_name-count-2 c).Else-told-ne0) c.put_address.new.out (zeros (goal.at.slice_bounds-put_name-count-2 c).Else-told-ne0) (sixteen (goal.at.slice_bounds-put_name-count-2 c).After-put_address))
+slice_bounds-put_name-count-2 c =
+    let else_told_ne0 = (goal.at.slice_bounds-put_name-count-2 c).Else-told-ne0 in
+    let at_put_address = (goal.at.slice_bounds-put_name-count-2 c).After-put_address in
+    omega (arith, address_long (zeroed else_told_ne0) c.put_address.new.out (zeros else_told_ne0) (sixteen at_put_address))
 
 pub slice_bounds-put_name-start-2 : goal.slice_bounds-put_name-start-2
-slice_bounds-put_name-start-2 c = omega (arith, address_long (zeroed (goal.at.slice_bounds-put_name-start-2 c).Else-told-ne0) c.put_address.new.out (zeros (goal.at.slice_bounds-put_name-start-2 c).Else-told-ne0) (sixteen (goal.at.slice_bounds-put_name-start-2 c).After-put_address))
+slice_bounds-put_name-start-2 c =
+    let else_told_ne0 = (goal.at.slice_bounds-put_name-start-2 c).Else-told-ne0 in
+    let at_put_address = (goal.at.slice_bounds-put_name-start-2 c).After-put_address in
+    omega (arith, address_long (zeroed else_told_ne0) c.put_address.new.out (zeros else_told_ne0) (sixteen at_put_address))
 
 pub put_name-length-requires : goal.put_name-length-requires
 put_name-length-requires c =
-    let l = c.args.found.prefix in
-    (ap (name_number l) (part (goal.at.put_name-length-requires c).Else-told-ne0) ∙ (sound (goal.at.put_name-length-requires c).Else-told-ne0).named, (sound (goal.at.put_name-length-requires c).Else-told-ne0).told ∙ ap (λ (xs : List ℕ). (name_found l xs).standard) (sym (part (goal.at.put_name-length-requires c).Else-told-ne0)), name_room_lem (goal.at.put_name-length-requires c).After-put_address)
+    let else_told_ne0 = (goal.at.put_name-length-requires c).Else-told-ne0 in
+    let put_address = (goal.at.put_name-length-requires c).After-put_address in
+    let l = c.args.found.prefix in (
+      ap (name_number l) (part else_told_ne0) ∙ (sound else_told_ne0).named,
+      (sound else_told_ne0).told ∙ ap (λ (xs : List ℕ). (name_found l xs).standard) (sym (part else_told_ne0)),
+      name_room_lem put_address,
+    )
 
 pub bounds-value-0 : goal.bounds-value-0
 bounds-value-0 c = omega (arith, all (goal.at.bounds-value-0 c).After-put_name-length)
@@ -90,12 +111,15 @@ bounds-value-17 c = simp length-set (omega (arith, all (goal.at.bounds-value-17 
 pub returns : goal.returns
 unfolding value_octets
 returns c =
+    let else_told_ne0 = (goal.at.returns c).Else-told-ne0 in
+    let at_put_address = (goal.at.returns c).After-put_address in
+    let put_name_length = (goal.at.returns c).After-put_name-length in
     let n = c.put_name-length in
     let f = c.args.found in
-    let m = ap (name_in f.prefix) (part (goal.at.returns c).Else-told-ne0) in
+    let m = ap (name_in f.prefix) (part else_told_ne0) in
     let address = c.put_address.new.out in
     let name = n.new.out in
-    let w = ap value_octets (parts_value (rdata (goal.at.returns c).Else-told-ne0) f address name n.result c.put_address.ensures (n.ensures.0 ∙ ap (λ (t : Name). t.octets) m) (n.ensures.1 ∙ ap (λ (t : Name). t.length) m)) in
-    let v = value_put (zeroed (goal.at.returns c).Else-told-ne0) address (zeros (goal.at.returns c).Else-told-ne0) (sixteen (goal.at.returns c).After-put_address) name f.prefix n.result ∙ w in
-    let l : length (value_octets (value_at (rdata (goal.at.returns c).Else-told-ne0) f)) ≡ value_size = ap length (sym v) ∙ simp length-set (all (goal.at.returns c).After-put_name-length) in
-    (sym c.if-told-ne0.false, v ∙ full_out (value_octets (value_at (rdata (goal.at.returns c).Else-told-ne0) f)) value_size l)
+    let w = ap value_octets (parts_value (rdata else_told_ne0) f address name n.result c.put_address.ensures (n.ensures.0 ∙ ap (λ (t : Name). t.octets) m) (n.ensures.1 ∙ ap (λ (t : Name). t.length) m)) in
+    let v = value_put (zeroed else_told_ne0) address (zeros else_told_ne0) (sixteen at_put_address) name f.prefix n.result ∙ w in
+    let l : length (value_octets (value_at (rdata else_told_ne0) f)) ≡ value_size = ap length (sym v) ∙ simp length-set (all put_name_length) in
+    (sym c.if-told-ne0.false, v ∙ full_out (value_octets (value_at (rdata else_told_ne0) f)) value_size l)

@@ -52,13 +52,12 @@ figure-requires c = refuses_part
 pub returns : goal.returns
 unfolding value_in
 returns c =
+    let here = (goal.at.returns c).Else-misfits in
     let a = c.args in
     let v = value_in a.value.now in
     let o = c.lay-answer.ensures in
     let f = c.figure.ensures in
-    let out = ap length (kept (goal.at.returns c).Else-misfits).0 in
-    let figures = ap length (kept (goal.at.returns c).Else-misfits).1 in
-    let y = written _ _ (laid_number v a.before (length a.out.now)) (laid_of v a.before) (length a.out.now) (fitting (goal.at.returns c).Else-misfits)
-    (o.value ∙ ap (λ (n : ℕ). answer_by (laid_number v a.before n) (length (laid_of v a.before)) 0) out, o.out_after ∙ ap (λ (n : ℕ). out_by (laid_number v a.before n) (laid_of v a.before) n) out)
-    (f.number ∙ ap (λ (n : ℕ). exported_number of_part n c.lay-answer.result.number) figures, f.figured ∙ ap (exported_figures c.figure.result c.lay-answer.result) figures) in
+    let out = ap length (kept here).0 in
+    let figures = ap length (kept here).1 in
+    let y = written _ _ (laid_number v a.before (length a.out.now)) (laid_of v a.before) (length a.out.now) (fitting here) (o.value ∙ ap (λ (n : ℕ). answer_by (laid_number v a.before n) (length (laid_of v a.before)) 0) out, o.out_after ∙ ap (λ (n : ℕ). out_by (laid_number v a.before n) (laid_of v a.before) n) out) (f.number ∙ ap (λ (n : ℕ). exported_number of_part n c.lay-answer.result.number) figures, f.figured ∙ ap (exported_figures c.figure.result c.lay-answer.result) figures) in
     record { number = y.0; output = y.1.0; figured = y.1.1 }

@@ -25,17 +25,20 @@ loop-k-init c = (omega arith, search rules, refl)
 
 pub loop-k-preserved : goal.loop-k-preserved
 loop-k-preserved c =
+    let here = (goal.at.loop-k-preserved c).Start in
     let l = c.loop-k in
     let a = c.args in
-    let n = long c.before.before.before.before.before in
-    let e =
-    octet_chosen a.high a.low a.at (search rules) (search rules) (small_high c.before.before.before.before.before) (small_low c.before.before.before.before.before) l.k c.wide-place.result c.mix-mixed.result c.octet.result (omega arith)
-    c.wide-place.ensures.0 c.mix-mixed.ensures c.octet.ensures in
-    (omega arith, simp length-set l.invariant.1, same_more l.out (join_of a.high a.low a.at) l.k c.octet.result (omega arith) (omega arith) l.invariant.2 e)
+    let n = long here in
+    let e = octet_chosen a.high a.low a.at (search rules) (search rules) (small_high here) (small_low here) l.k c.wide-place.result c.mix-mixed.result c.octet.result (omega arith) c.wide-place.ensures.0 c.mix-mixed.ensures c.octet.ensures in (
+      omega arith,
+      simp length-set l.invariant.1,
+      same_more l.out (join_of a.high a.low a.at) l.k c.octet.result (omega arith) (omega arith) l.invariant.2 e,
+    )
 
 pub returns : goal.returns
 returns c =
+    let here = (goal.at.returns c).Start in
     let l = c.loop-k in
     let a = c.args in
-    let n = long c.before.before.before.before in
+    let n = long here in
     same_all l.out (join_of a.high a.low a.at) l.k (omega arith) (omega arith) l.invariant.2

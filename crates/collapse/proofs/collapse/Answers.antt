@@ -38,30 +38,48 @@ held c = let l : length (entry c).name.octets ≡ 255 = search rules in enters _
 
 pub returns-then-number-ne0 : goal.returns-then-number-ne0
 returns-then-number-ne0 c =
-    let n = (entry (goal.at.returns-then-number-ne0 c).After-wide-n).number in
-    let f = (held (goal.at.returns-then-number-ne0 c).After-wide-n).earned in
-    let e : n ≡ number_of (table (goal.at.returns-then-number-ne0 c).After-wide-n) (name (goal.at.returns-then-number-ne0 c).After-wide-n) (size (goal.at.returns-then-number-ne0 c).After-wide-n) = f ∙ sym (number_entry (table (goal.at.returns-then-number-ne0 c).After-wide-n) (name (goal.at.returns-then-number-ne0 c).After-wide-n) (size (goal.at.returns-then-number-ne0 c).After-wide-n) (λ h. c.if-number-ne0.true (f ∙ h))) in record { reply = replies (table (goal.at.returns-then-number-ne0 c).After-wide-n) (c.refuse.ensures.0 ∙ refused_answer n _ e c.if-number-ne0.true _ 0) (held (goal.at.returns-then-number-ne0 c).After-wide-n).placed; output = c.refuse.ensures.1 ∙ refused_out n _ e c.if-number-ne0.true _ (size (goal.at.returns-then-number-ne0 c).After-wide-n) }
+    let here = (goal.at.returns-then-number-ne0 c).After-wide-n in
+    let n = (entry here).number in
+    let f = (held here).earned in
+    let e : n ≡ number_of (table here) (name here) (size here) = f ∙ sym (number_entry (table here) (name here) (size here) (λ h. c.if-number-ne0.true (f ∙ h))) in
+    record {
+      reply = replies (table here) (c.refuse.ensures.0 ∙ refused_answer n _ e c.if-number-ne0.true _ 0) (held here).placed;
+      output = c.refuse.ensures.1 ∙ refused_out n _ e c.if-number-ne0.true _ (size here);
+    }
 
 pub returns-then-out-ne0 : goal.returns-then-out-ne0
 returns-then-out-ne0 c =
-    let e = sym (number_output (table (goal.at.returns-then-out-ne0 c).After-wide-n) (name (goal.at.returns-then-out-ne0 c).After-wide-n) (size (goal.at.returns-then-out-ne0 c).After-wide-n) (sym (held (goal.at.returns-then-out-ne0 c).After-wide-n).earned ∙ c.if-number-ne0.false) c.if-out-ne0.true) in record { reply = replies (table (goal.at.returns-then-out-ne0 c).After-wide-n) (c.refuse-then-out-ne0.ensures.0 ∙ refused_answer 5 _ e (not_nought 4) _ 0) (held (goal.at.returns-then-out-ne0 c).After-wide-n).placed; output = c.refuse-then-out-ne0.ensures.1 ∙ refused_out 5 _ e (not_nought 4) _ (size (goal.at.returns-then-out-ne0 c).After-wide-n) }
+    let here = (goal.at.returns-then-out-ne0 c).After-wide-n in
+    let e = sym (number_output (table here) (name here) (size here) (sym (held here).earned ∙ c.if-number-ne0.false) c.if-out-ne0.true) in
+    record {
+      reply = replies (table here) (c.refuse-then-out-ne0.ensures.0 ∙ refused_answer 5 _ e (not_nought 4) _ 0) (held here).placed;
+      output = c.refuse-then-out-ne0.ensures.1 ∙ refused_out 5 _ e (not_nought 4) _ (size here);
+    }
 
 pub slice_bounds-standard-end : goal.slice_bounds-standard-end
 slice_bounds-standard-end c = (held (goal.at.slice_bounds-standard-end c).After-wide-n).fits
 
 pub slice_bounds-fold-end : goal.slice_bounds-fold-end
-slice_bounds-fold-end c = sym (length-take-le c.wide-n.result (entry (goal.at.slice_bounds-fold-end c).After-wide-n).name.octets (held (goal.at.slice_bounds-fold-end c).After-wide-n).fits)
+slice_bounds-fold-end c =
+    let here = (goal.at.slice_bounds-fold-end c).After-wide-n in
+    sym (length-take-le c.wide-n.result (entry here).name.octets (held here).fits)
 
 pub fold-requires : goal.fold-requires
 fold-requires c =
+    let here = (goal.at.fold-requires c).After-wide-n in
     let z = c.if-number-ne0.false in
-    (((held (goal.at.fold-requires c).After-wide-n).sound z).0, (held (goal.at.fold-requires c).After-wide-n).standing (small (goal.at.fold-requires c).After-wide-n) z, c.if-out-ne0.false)
+    (((held here).sound z).0, (held here).standing (small here) z, c.if-out-ne0.false)
 
 pub returns : goal.returns
 returns c =
+    let here = (goal.at.returns c).After-wide-n in
     let z = c.if-number-ne0.false in
-    let w = ((held (goal.at.returns c).After-wide-n).sound z).1 in
-    let p = (held (goal.at.returns c).After-wide-n).part z in
-    let x = name (goal.at.returns c).After-wide-n in
-    let g = same_standard x (small (goal.at.returns c).After-wide-n) w in
-    let m = standard_formed x (small (goal.at.returns c).After-wide-n) w ∙ sym w in record { reply = replies (table (goal.at.returns c).After-wide-n) (c.fold.ensures.answer ∙ ap (λ (y : List ℕ). collapse_answer (table (goal.at.returns c).After-wide-n) y (size (goal.at.returns c).After-wide-n)) p ∙ answer_same (table (goal.at.returns c).After-wide-n) (standard_of x) x (size (goal.at.returns c).After-wide-n) g m) (held (goal.at.returns c).After-wide-n).placed; output = c.fold.ensures.output ∙ ap (λ (y : List ℕ). collapse_out (table (goal.at.returns c).After-wide-n) y (size (goal.at.returns c).After-wide-n)) p ∙ out_same (table (goal.at.returns c).After-wide-n) (standard_of x) x (size (goal.at.returns c).After-wide-n) g m }
+    let w = ((held here).sound z).1 in
+    let p = (held here).part z in
+    let x = name here in
+    let g = same_standard x (small here) w in
+    let m = standard_formed x (small here) w ∙ sym w in
+    record {
+      reply = replies (table here) (c.fold.ensures.answer ∙ ap (λ (y : List ℕ). collapse_answer (table here) y (size here)) p ∙ answer_same (table here) (standard_of x) x (size here) g m) (held here).placed;
+      output = c.fold.ensures.output ∙ ap (λ (y : List ℕ). collapse_out (table here) y (size here)) p ∙ out_same (table here) (standard_of x) x (size here) g m;
+    }

@@ -22,9 +22,11 @@ returns-then-prefix_of-eq0 c = sym (leads_zero _ _ (sym c.prefix_of.ensures ∙ 
 
 pub equal-requires : goal.equal-requires
 equal-requires c =
+    let here = (goal.at.equal-requires c).Else-prefix_of-eq0 in
     let w = c.requires.slot_value in
-    (ap in_standard_form c.name_in.ensures ∙ w.0 (leads_is c.args.row.now (kind_is (goal.at.equal-requires c).Else-prefix_of-eq0) (some (goal.at.equal-requires c).Else-prefix_of-eq0)), w.1)
+    (ap in_standard_form c.name_in.ensures ∙ w.0 (leads_is c.args.row.now (kind_is here) (some here)), w.1)
 
 pub returns : goal.returns
 returns c =
-    c.equal.ensures ∙ ap (λ (m : List ℕ). same_name m c.args.name.now) c.name_in.ensures ∙ sym (leads_on c.args.row.now _ (kind_is (goal.at.returns c).Else-prefix_of-eq0) (some (goal.at.returns c).Else-prefix_of-eq0))
+    let here = (goal.at.returns c).Else-prefix_of-eq0 in
+    c.equal.ensures ∙ ap (λ (m : List ℕ). same_name m c.args.name.now) c.name_in.ensures ∙ sym (leads_on c.args.row.now _ (kind_is here) (some here))

@@ -32,7 +32,8 @@ equal-requires c = (
 
 pub returns : goal.returns
 returns c =
+    let here = (goal.at.returns c).After-name_in-2 in
     let a = c.args in
     let k = sym c.kind_of.ensures ∙ c.if-kind_of-ne-A6.false in
-    c.equal.ensures ∙ ap₂ same_name (owner_is (goal.at.returns c).After-name_in-2) (target_is (goal.at.returns c).After-name_in-2)
+    c.equal.ensures ∙ ap₂ same_name (owner_is here) (target_is here)
     ∙ sym (continues_on a.r.now a.q.now k (omega (arith, c.if-prefix_of.false, c.prefix_of.ensures, c.prefix_of-2.ensures)))

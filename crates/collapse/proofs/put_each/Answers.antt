@@ -26,32 +26,44 @@ made c = made_of (table c) (row c)
 few : (c : Start) → count_of (table c) ≤ max_records
 few c = order_count (table c) c.requires.0
 
-bucket_is : (c : After-bucket-b) → c.bucket-b.result ≡ bucket_of (target_slot (row c.before.before.before.before.before.before.before.before.before))
+abbrev start_of_bucket_b : After-bucket-b → Start
+start_of_bucket_b c = c.before.before.before.before.before.before.before.before.before
+
+bucket_is : (c : After-bucket-b) → c.bucket-b.result ≡ bucket_of (target_slot (row (start_of_bucket_b c)))
 bucket_is c = c.bucket-b.ensures.0 ∙ ap bucket_of (c.target_slot.ensures.0 ∙ ap target_slot c.row.ensures.0)
 
 -- where the first turn starts, and where the next one does
 abbrev first : After-shared_slice_known-4-1 → ℕ
 first c = get_or c.args.heads.now c.bucket-b.result 0
 
-start : (c : After-shared_slice_known-4-1) → Walked (table c.before.before.before.before.before.before.before.before.before.before) c.args.i 0 (first c)
+abbrev start_of_shared_slice_known_4_1 : After-shared_slice_known-4-1 → Start
+start_of_shared_slice_known_4_1 c = c.before.before.before.before.before.before.before.before.before.before
+
+abbrev bucket_b : After-shared_slice_known-4-1 → After-bucket-b
+bucket_b c = record { before = c.before.before; type_inv = record { out = c.slice_known-1.given; next = c.shared_slice_known-3-1.given; heads = c.shared_slice_known-2-1.given; table = c.shared_slice_known-1.given } }
+
+start : (c : After-shared_slice_known-4-1) → Walked (table (start_of_shared_slice_known_4_1 c)) c.args.i 0 (first c)
 start c =
     let k = c.bucket-b in
-    let h : first c ≡ first_in (table c.before.before.before.before.before.before.before.before.before.before) (bucket_of (target_slot (row c.before.before.before.before.before.before.before.before.before.before))) 0 =
-    c.requires.4.head k.result k.ensures.1 ∙ ap (λ (b : ℕ). first_in (table c.before.before.before.before.before.before.before.before.before.before) b 0) (bucket_is record { before = c.before.before; type_inv = record { out = c.slice_known-1.given; next = c.shared_slice_known-3-1.given; heads = c.shared_slice_known-2-1.given; table = c.shared_slice_known-1.given } }) in
-    walked (table c.before.before.before.before.before.before.before.before.before.before) c.requires.0 c.args.i c.requires.1 c.requires.2 0 (first c) (omega arith) (few c.before.before.before.before.before.before.before.before.before.before) h
+    let h : first c ≡ first_in (table (start_of_shared_slice_known_4_1 c)) (bucket_of (target_slot (row (start_of_shared_slice_known_4_1 c)))) 0 = c.requires.4.head k.result k.ensures.1
+    ∙ ap (λ (b : ℕ). first_in (table (start_of_shared_slice_known_4_1 c)) b 0) (bucket_is (bucket_b c)) in
+    walked (table (start_of_shared_slice_known_4_1 c)) c.requires.0 c.args.i c.requires.1 c.requires.2 0 (first c) (omega arith) (few (start_of_shared_slice_known_4_1 c)) h
 
-within : (c : After-shared_slice_known-in-loop-j-1) → c.loop-j.j < count_of (table c.before.before.before.before.before.before.before.before.before.before.before.before.before.before.before.before.before)
+abbrev start_of_shared_slice_known_in_loop_j_1 : After-shared_slice_known-in-loop-j-1 → Start
+start_of_shared_slice_known_in_loop_j_1 c = c.before.before.before.before.before.before.before.before.before.before.before.before.before.before.before.before.before
+
+within : (c : After-shared_slice_known-in-loop-j-1) → c.loop-j.j < count_of (table (start_of_shared_slice_known_in_loop_j_1 c))
 within c = omega (arith, c.loop-j.invariant.0)
 
 abbrev following : After-shared_slice_known-in-loop-j-1 → ℕ
 following c = get_or c.args.next.now c.loop-j.j 0
 
-step : (c : After-shared_slice_known-in-loop-j-1) → Walked (table c.before.before.before.before.before.before.before.before.before.before.before.before.before.before.before.before.before) c.args.i (c.loop-j.j + 1) (following c)
+step : (c : After-shared_slice_known-in-loop-j-1) → Walked (table (start_of_shared_slice_known_in_loop_j_1 c)) c.args.i (c.loop-j.j + 1) (following c)
 step c =
     let l = c.loop-j in
-    let e : following c ≡ first_in (table c.before.before.before.before.before.before.before.before.before.before.before.before.before.before.before.before.before) (bucket_of (target_slot (row c.before.before.before.before.before.before.before.before.before.before.before.before.before.before.before.before.before))) (l.j + 1) =
-    c.requires.4.after l.j (omega arith) (within c) ∙ ap (λ (b : ℕ). first_in (table c.before.before.before.before.before.before.before.before.before.before.before.before.before.before.before.before.before) b (l.j + 1)) (l.invariant.3 (within c)) in
-    walked (table c.before.before.before.before.before.before.before.before.before.before.before.before.before.before.before.before.before) c.requires.0 c.args.i c.requires.1 c.requires.2 (l.j + 1) (following c) (omega (arith, within c)) (few c.before.before.before.before.before.before.before.before.before.before.before.before.before.before.before.before.before) e
+    let e : following c ≡ first_in (table (start_of_shared_slice_known_in_loop_j_1 c)) (bucket_of (target_slot (row (start_of_shared_slice_known_in_loop_j_1 c)))) (l.j + 1) = c.requires.4.after l.j (omega arith) (within c)
+    ∙ ap (λ (b : ℕ). first_in (table (start_of_shared_slice_known_in_loop_j_1 c)) b (l.j + 1)) (l.invariant.3 (within c)) in
+    walked (table (start_of_shared_slice_known_in_loop_j_1 c)) c.requires.0 c.args.i c.requires.1 c.requires.2 (l.j + 1) (following c) (omega (arith, within c)) (few (start_of_shared_slice_known_in_loop_j_1 c)) e
 
 pub row-requires : goal.row-requires
 row-requires c = c.requires.1
@@ -73,23 +85,26 @@ overflow_cast-j c = omega (arith, (start c).within)
 
 pub loop-j-init : goal.loop-j-init
 loop-j-init c =
+    let bucket_b = (goal.at.loop-j-init c).After-bucket-b in
+    let at_start = (goal.at.loop-j-init c).Start in
     let a = c.args in
     let k = start c in (
       c.count-count.ensures,
-      bucket_is (goal.at.loop-j-init c).After-bucket-b,
+      bucket_is bucket_b,
       k.within,
       k.bucket,
-      count_start (made (goal.at.loop-j-init c).Start) a.n ∙ sym (ap (λ (l : List (List ℕ)). a.n + length l) k.same),
-      stored_start (made (goal.at.loop-j-init c).Start) a.out.now a.n ∙ sym (ap (stored a.out.now a.n) k.same),
+      count_start (made at_start) a.n ∙ sym (ap (λ (l : List (List ℕ)). a.n + length l) k.same),
+      stored_start (made at_start) a.out.now a.n ∙ sym (ap (stored a.out.now a.n) k.same),
       refl,
     )
 
 pub put_made-m-requires : goal.put_made-m-requires
 put_made-m-requires c =
+    let here = (goal.at.put_made-m-requires c).Start in
     let l = c.loop-j in
     let w = c.requires in
-    let f = few_turns (made (goal.at.put_made-m-requires c).Start) 1 (min l.j (count_of (table (goal.at.put_made-m-requires c).Start))) (λ k h. made_few (table (goal.at.put_made-m-requires c).Start) (row (goal.at.put_made-m-requires c).Start) k) in
-    (w.0, w.1, w.2, omega (arith, few (goal.at.put_made-m-requires c).Start, l.invariant.4, w.3), omega (arith, l.invariant.0))
+    let f = few_turns (made here) 1 (min l.j (count_of (table here))) (λ k h. made_few (table here) (row here) k) in
+    (w.0, w.1, w.2, omega (arith, few here, l.invariant.4, w.3), omega (arith, l.invariant.0))
 
 pub offset_bounds-next-j : goal.offset_bounds-next-j
 offset_bounds-next-j c = omega (arith, c.loop-j.invariant.2)
@@ -105,12 +120,13 @@ loop-j-smaller c = omega (arith, (step c).from, c.loop-j.invariant.0)
 
 pub loop-j-preserved : goal.loop-j-preserved
 loop-j-preserved c =
+    let here = (goal.at.loop-j-preserved c).Start in
     let l = c.loop-j in
     let a = c.args in
-    let f = made (goal.at.loop-j-preserved c).Start in
+    let f = made here in
     let k = step c in
     let p = c.put_made-m in
-    let e : min l.j (count_of (table (goal.at.loop-j-preserved c).Start)) ≡ l.j = omega (arith, l.invariant.0) in
+    let e : min l.j (count_of (table here)) ≡ l.j = omega (arith, l.invariant.0) in
     let m : l.m ≡ a.n + length (up_to l.j f) = l.invariant.4 ∙ ap (λ (v : ℕ). a.n + length (up_to v f)) e in
     let u : l.out ≡ stored a.out.now a.n (up_to l.j f) = l.invariant.5 ∙ ap (λ (v : ℕ). stored a.out.now a.n (up_to v f)) e in (
       l.invariant.0,
@@ -124,5 +140,7 @@ loop-j-preserved c =
 
 pub returns : goal.returns
 returns c =
+    let here = (goal.at.returns c).Start in
     let l = c.loop-j in
-    let e : min l.j (count_of (table (goal.at.returns c).Start)) ≡ count_of (table (goal.at.returns c).Start) = omega (arith, l.invariant.0) in record { value = rw (← e) l.invariant.4; out_after = rw (← e) l.invariant.5 }
+    let e : min l.j (count_of (table here)) ≡ count_of (table here) = omega (arith, l.invariant.0) in
+    record { value = rw (← e) l.invariant.4; out_after = rw (← e) l.invariant.5 }

@@ -47,14 +47,9 @@ filled_up c =
     let k : length numbers.new.own ≡ 1024 = numbers.auto.own in
     let l : length c.set_owners.new.owners ≡ length numbers.new.own = c.set_owners.auto.owners in
     record {
-      owner = λ i h.
-          ap (λ (l : List ℕ). get_or l i 0) c.set_owners.ensures
-          ∙ filled_at (search_owner t numbers.new.own) numbers.new.own (count_of t) i h (omega arith)
-          ∙ ap (λ (m : ℕ). pick (is_a6 (record_at t i)) m no_owner)
-          (ap (λ (l : List ℕ). get_or l i 0) numbers.ensures.owners ∙ filled_at (own_number t) _ (count_of t) i h n);
-      head = λ i h.
-          c.set_fields.ensures.head i h
-          ∙ ap (λ (m : ℕ). head_of m (prefix_at t i) (ttl_at t i)) (ap (λ (l : List ℕ). get_or l i 0) numbers.ensures.targets ∙ filled_at (target_number t) _ (count_of t) i h n);
+      owner = λ i h. ap (λ (l : List ℕ). get_or l i 0) c.set_owners.ensures ∙ filled_at (search_owner t numbers.new.own) numbers.new.own (count_of t) i h (omega arith)
+          ∙ ap (λ (m : ℕ). pick (is_a6 (record_at t i)) m no_owner) (ap (λ (l : List ℕ). get_or l i 0) numbers.ensures.owners ∙ filled_at (own_number t) _ (count_of t) i h n);
+      head = λ i h. c.set_fields.ensures.head i h ∙ ap (λ (m : ℕ). head_of m (prefix_at t i) (ttl_at t i)) (ap (λ (l : List ℕ). get_or l i 0) numbers.ensures.targets ∙ filled_at (target_number t) _ (count_of t) i h n);
       address = c.set_fields.ensures.address;
       owners_long = omega arith;
     }
@@ -63,36 +58,39 @@ pub slice_bounds-owners-end : goal.slice_bounds-owners-end
 slice_bounds-owners-end c = rw c.count-n.ensures (filled_up c).owners_long
 
 pub slice_bounds-find-end : goal.slice_bounds-find-end
-slice_bounds-find-end c = sym (length-take-le c.count-n.result c.set_owners.new.owners (rw c.count-n.ensures (filled_up (goal.at.slice_bounds-find-end c).After-count-n).owners_long))
+slice_bounds-find-end c =
+    let here = (goal.at.slice_bounds-find-end c).After-count-n in
+    sym (length-take-le c.count-n.result c.set_owners.new.owners (rw c.count-n.ensures (filled_up here).owners_long))
 
 pub find-requires : goal.find-requires
 find-requires c =
+    let here = (goal.at.find-requires c).After-count-n in
     let t = c.args.table.now in
     let o = c.requires.in_order.0 in record {
       numbered = (
-        rw c.count-n.ensures (read_numbered t _ _ o (filled_up (goal.at.find-requires c).After-count-n)),
-        rw c.number-x.ensures.name (number_below t _ _ o (filled_up (goal.at.find-requires c).After-count-n) c.args.name.now),
+        rw c.count-n.ensures (read_numbered t _ _ o (filled_up here)),
+        rw c.number-x.ensures.name (number_below t _ _ o (filled_up here) c.args.name.now),
       );
       out_len = c.requires.out_len;
     }
 
 pub returns : goal.returns
 returns c =
+    let here = (goal.at.returns c).After-count-n in
     let t = c.args.table.now in
     let o = c.requires.in_order.0 in
     let x = c.args.name.now in
     let limit = c.args.limit in
     let size = length c.args.out.now in
-    let full = filled_up (goal.at.returns c).After-count-n in
+    let full = filled_up here in
     let y = number_in (names_of t) x in
     let h = search'.graph_of (search'.records (take (count_of t) c.set_owners.new.owners) c.set_fields.new.fields) in
     let w = work_read t _ _ o full x in
     let a = addresses_read t _ _ o full x in
     let found = c.find.ensures in
-    let turned = rw (c.count-n.ensures, c.number-x.ensures.name) at found in record {
+    let turned = rw (c.count-n.ensures, c.number-x.ensures.name) at found in
+    record {
       value = turned.value ∙ sym (answer_like (graph_of t) h x y w a (number_of (graph_of t) x limit (size / 16)) ∙ ap (answer_of h y) (number_like (graph_of t) h x y w a limit (size / 16)));
-      out_after = turned.out_after
-          ∙ sym (output_like (graph_of t) h x y w a (number_of (graph_of t) x limit (size / 16)) size ∙ ap (λ (k : ℕ). output_of h y k size) (number_like (graph_of t) h x y w a limit (size / 16)));
-      lives_after = turned.lives_after
-          ∙ sym (lives_like (graph_of t) h x y w a (lifetime_read t _ _ o full x) (number_of (graph_of t) x limit (size / 16)) (size / 16) ∙ ap (λ (k : ℕ). lives_of h y k (size / 16)) (number_like (graph_of t) h x y w a limit (size / 16)));
+      out_after = turned.out_after ∙ sym (output_like (graph_of t) h x y w a (number_of (graph_of t) x limit (size / 16)) size ∙ ap (λ (k : ℕ). output_of h y k size) (number_like (graph_of t) h x y w a limit (size / 16)));
+      lives_after = turned.lives_after ∙ sym (lives_like (graph_of t) h x y w a (lifetime_read t _ _ o full x) (number_of (graph_of t) x limit (size / 16)) (size / 16) ∙ ap (λ (k : ℕ). lives_of h y k (size / 16)) (number_like (graph_of t) h x y w a limit (size / 16)));
     }

@@ -61,41 +61,78 @@ entry c = c.enter-entered.result
 held : (c : After-wide-length) → Enters (table c) (name c) (entry c) c.wide-length.result
 held c = let l : length (entry c).name.octets ≡ 255 = search rules in enters _ _ (entry c) _ l c.enter-entered.ensures c.wide-length.ensures
 
-accepted : (c : Else-is_misfit) → (entry record { before = c.before.before.before.before; type_inv = record { ttls = c.slice_known-4-1.given; out = c.slice_known-3-1.given; name = c.shared_slice_known-2-1.given; table = c.shared_slice_known-1.given } }).number ≡ 0
+abbrev wide_length : Else-is_misfit → After-wide-length
+wide_length c = record { before = c.before.before.before.before; type_inv = record { ttls = c.slice_known-4-1.given; out = c.slice_known-3-1.given; name = c.shared_slice_known-2-1.given; table = c.shared_slice_known-1.given } }
+
+accepted : (c : Else-is_misfit) → (entry (wide_length c)).number ≡ 0
 accepted c = c.if-number-ne0.false
 
-misfit_is : (c : After-is_misfit) → c.is_misfit.result ≡ misfit (size record { before = c.before.before.before; type_inv = record { ttls = c.slice_known-4-1.given; out = c.slice_known-3-1.given; name = c.shared_slice_known-2-1.given; table = c.shared_slice_known-1.given } }) (room record { before = c.before.before.before; type_inv = record { ttls = c.slice_known-4-1.given; out = c.slice_known-3-1.given; name = c.shared_slice_known-2-1.given; table = c.shared_slice_known-1.given } })
-misfit_is c = let b = blanked record { before = c.before.before.before; type_inv = record { ttls = c.slice_known-4-1.given; out = c.slice_known-3-1.given; name = c.shared_slice_known-2-1.given; table = c.shared_slice_known-1.given } } in c.is_misfit.ensures ∙ λ i. misfit (b.long i) (b.lasting i)
+abbrev wide_length_of_is_misfit : After-is_misfit → After-wide-length
+wide_length_of_is_misfit c = record { before = c.before.before.before; type_inv = record { ttls = c.slice_known-4-1.given; out = c.slice_known-3-1.given; name = c.shared_slice_known-2-1.given; table = c.shared_slice_known-1.given } }
 
-fitting : (c : Else-is_misfit) → misfit (size record { before = c.before.before.before.before; type_inv = record { ttls = c.slice_known-4-1.given; out = c.slice_known-3-1.given; name = c.shared_slice_known-2-1.given; table = c.shared_slice_known-1.given } }) (room record { before = c.before.before.before.before; type_inv = record { ttls = c.slice_known-4-1.given; out = c.slice_known-3-1.given; name = c.shared_slice_known-2-1.given; table = c.shared_slice_known-1.given } }) ≡ false
-fitting c = sym (misfit_is record { before = c.before.before; type_inv = record { ttls = c.slice_known-4-1.given; out = c.slice_known-3-1.given; name = c.shared_slice_known-2-1.given; table = c.shared_slice_known-1.given } }) ∙ c.if-is_misfit.false
+misfit_is : (c : After-is_misfit) → c.is_misfit.result ≡ misfit (size (wide_length_of_is_misfit c)) (room (wide_length_of_is_misfit c))
+misfit_is c = let b = blanked (wide_length_of_is_misfit c) in c.is_misfit.ensures ∙ λ i. misfit (b.long i) (b.lasting i)
+
+abbrev is_misfit : Else-is_misfit → After-is_misfit
+is_misfit c = record { before = c.before.before; type_inv = record { ttls = c.slice_known-4-1.given; out = c.slice_known-3-1.given; name = c.shared_slice_known-2-1.given; table = c.shared_slice_known-1.given } }
+
+fitting : (c : Else-is_misfit) → misfit (size (wide_length c)) (room (wide_length c)) ≡ false
+fitting c = sym (misfit_is (is_misfit c)) ∙ c.if-is_misfit.false
 
 pub returns-then-number-ne0 : goal.returns-then-number-ne0
 returns-then-number-ne0 c =
+    let here = (goal.at.returns-then-number-ne0 c).After-wide-length in
     let t = c.if-number-ne0.true in
-    let n = (entry (goal.at.returns-then-number-ne0 c).After-wide-length).number in
-    let f = (held (goal.at.returns-then-number-ne0 c).After-wide-length).earned in
-    let e : n ≡ number (goal.at.returns-then-number-ne0 c).After-wide-length = f ∙ sym (lookup_entry (table (goal.at.returns-then-number-ne0 c).After-wide-length) (name (goal.at.returns-then-number-ne0 c).After-wide-length) c.args.limit (size (goal.at.returns-then-number-ne0 c).After-wide-length) (room (goal.at.returns-then-number-ne0 c).After-wide-length) (λ h. t (f ∙ h))) in record { reply = replies (table (goal.at.returns-then-number-ne0 c).After-wide-length) (c.refused.ensures ∙ refused_answer n _ e t _ _) (held (goal.at.returns-then-number-ne0 c).After-wide-length).placed; output = (blanked (goal.at.returns-then-number-ne0 c).After-wide-length).zeros ∙ refused_out n _ e t _ (size (goal.at.returns-then-number-ne0 c).After-wide-length); lifetimes = (blanked (goal.at.returns-then-number-ne0 c).After-wide-length).noughts ∙ refused_out n _ e t _ (room (goal.at.returns-then-number-ne0 c).After-wide-length) }
+    let n = (entry here).number in
+    let f = (held here).earned in
+    let e : n ≡ number here = f ∙ sym (lookup_entry (table here) (name here) c.args.limit (size here) (room here) (λ h. t (f ∙ h))) in
+    record {
+      reply = replies (table here) (c.refused.ensures ∙ refused_answer n _ e t _ _) (held here).placed;
+      output = (blanked here).zeros ∙ refused_out n _ e t _ (size here);
+      lifetimes = (blanked here).noughts ∙ refused_out n _ e t _ (room here);
+    }
 
 pub returns-then-is_misfit : goal.returns-then-is_misfit
 returns-then-is_misfit c =
-    let o = sym (held (goal.at.returns-then-is_misfit c).After-wide-length).earned ∙ c.if-number-ne0.false in
-    let e = sym (lookup_misfit (table (goal.at.returns-then-is_misfit c).After-wide-length) (name (goal.at.returns-then-is_misfit c).After-wide-length) c.args.limit (size (goal.at.returns-then-is_misfit c).After-wide-length) (room (goal.at.returns-then-is_misfit c).After-wide-length) o (sym (misfit_is (goal.at.returns-then-is_misfit c).After-is_misfit) ∙ c.if-is_misfit.true)) in record { reply = replies (table (goal.at.returns-then-is_misfit c).After-wide-length) (c.refused-then-is_misfit.ensures ∙ refused_answer 5 _ e (not_nought 4) _ _) (held (goal.at.returns-then-is_misfit c).After-wide-length).placed; output = (blanked (goal.at.returns-then-is_misfit c).After-wide-length).zeros ∙ refused_out 5 _ e (not_nought 4) _ (size (goal.at.returns-then-is_misfit c).After-wide-length); lifetimes = (blanked (goal.at.returns-then-is_misfit c).After-wide-length).noughts ∙ refused_out 5 _ e (not_nought 4) _ (room (goal.at.returns-then-is_misfit c).After-wide-length) }
+    let wide_length = (goal.at.returns-then-is_misfit c).After-wide-length in
+    let is_misfit = (goal.at.returns-then-is_misfit c).After-is_misfit in
+    let o = sym (held wide_length).earned ∙ c.if-number-ne0.false in
+    let e = sym (lookup_misfit (table wide_length) (name wide_length) c.args.limit (size wide_length) (room wide_length) o (sym (misfit_is is_misfit) ∙ c.if-is_misfit.true)) in
+    record {
+      reply = replies (table wide_length) (c.refused-then-is_misfit.ensures ∙ refused_answer 5 _ e (not_nought 4) _ _) (held wide_length).placed;
+      output = (blanked wide_length).zeros ∙ refused_out 5 _ e (not_nought 4) _ (size wide_length);
+      lifetimes = (blanked wide_length).noughts ∙ refused_out 5 _ e (not_nought 4) _ (room wide_length);
+    }
 
 pub slice_bounds-octets-end : goal.slice_bounds-octets-end
 slice_bounds-octets-end c = (held (goal.at.slice_bounds-octets-end c).After-wide-length).fits
 
 pub slice_bounds-look-end : goal.slice_bounds-look-end
-slice_bounds-look-end c = sym (length-take-le c.wide-length.result (entry (goal.at.slice_bounds-look-end c).After-wide-length).name.octets (held (goal.at.slice_bounds-look-end c).After-wide-length).fits)
+slice_bounds-look-end c =
+    let here = (goal.at.slice_bounds-look-end c).After-wide-length in
+    sym (length-take-le c.wide-length.result (entry here).name.octets (held here).fits)
 
 pub look-requires : goal.look-requires
 look-requires c =
-    let b = blanked (goal.at.look-requires c).After-wide-length in
-    let f = misfit_not (size (goal.at.look-requires c).After-wide-length) (room (goal.at.look-requires c).After-wide-length) (fitting (goal.at.look-requires c).Else-is_misfit) in record { in_order = (((held (goal.at.look-requires c).After-wide-length).sound (accepted (goal.at.look-requires c).Else-is_misfit)).0, (held (goal.at.look-requires c).After-wide-length).standing (small (goal.at.look-requires c).After-wide-length) (accepted (goal.at.look-requires c).Else-is_misfit)); out_len = (omega (arith, f, b.long), b.zeros ∙ ap blank (sym b.long), omega (arith, f, b.long, b.lasting), b.noughts ∙ ap blank (sym b.lasting)) }
+    let wide_length = (goal.at.look-requires c).After-wide-length in
+    let else_is_misfit = (goal.at.look-requires c).Else-is_misfit in
+    let b = blanked wide_length in
+    let f = misfit_not (size wide_length) (room wide_length) (fitting else_is_misfit) in
+    record {
+      in_order = (((held wide_length).sound (accepted else_is_misfit)).0, (held wide_length).standing (small wide_length) (accepted else_is_misfit));
+      out_len = (omega (arith, f, b.long), b.zeros ∙ ap blank (sym b.long), omega (arith, f, b.long, b.lasting), b.noughts ∙ ap blank (sym b.lasting));
+    }
 
 pub returns : goal.returns
 returns c =
+    let wide_length = (goal.at.returns c).After-wide-length in
+    let else_is_misfit = (goal.at.returns c).Else-is_misfit in
     let a = c.args in
-    let o = sym (held (goal.at.returns c).After-wide-length).earned ∙ accepted (goal.at.returns c).Else-is_misfit in
-    let n = (misfit_not (size (goal.at.returns c).After-wide-length) (room (goal.at.returns c).After-wide-length) (fitting (goal.at.returns c).Else-is_misfit)).1 in
-    let e = rw ((held (goal.at.returns c).After-wide-length).part (accepted (goal.at.returns c).Else-is_misfit), (blanked (goal.at.returns c).After-wide-length).long) at c.look.ensures in record { reply = replies (table (goal.at.returns c).After-wide-length) (e.value ∙ lookup_answered (table (goal.at.returns c).After-wide-length) (name (goal.at.returns c).After-wide-length) a.limit (size (goal.at.returns c).After-wide-length) (room (goal.at.returns c).After-wide-length) o (small (goal.at.returns c).After-wide-length) (fitting (goal.at.returns c).Else-is_misfit) n) (held (goal.at.returns c).After-wide-length).placed; output = e.out_after ∙ lookup_written (table (goal.at.returns c).After-wide-length) (name (goal.at.returns c).After-wide-length) a.limit (size (goal.at.returns c).After-wide-length) (room (goal.at.returns c).After-wide-length) o (small (goal.at.returns c).After-wide-length) (fitting (goal.at.returns c).Else-is_misfit) n; lifetimes = e.lives_after ∙ lookup_lasting (table (goal.at.returns c).After-wide-length) (name (goal.at.returns c).After-wide-length) a.limit (size (goal.at.returns c).After-wide-length) (room (goal.at.returns c).After-wide-length) o (small (goal.at.returns c).After-wide-length) (fitting (goal.at.returns c).Else-is_misfit) n }
+    let o = sym (held wide_length).earned ∙ accepted else_is_misfit in
+    let n = (misfit_not (size wide_length) (room wide_length) (fitting else_is_misfit)).1 in
+    let e = rw ((held wide_length).part (accepted else_is_misfit), (blanked wide_length).long) at c.look.ensures in
+    record {
+      reply = replies (table wide_length) (e.value ∙ lookup_answered (table wide_length) (name wide_length) a.limit (size wide_length) (room wide_length) o (small wide_length) (fitting else_is_misfit) n) (held wide_length).placed;
+      output = e.out_after ∙ lookup_written (table wide_length) (name wide_length) a.limit (size wide_length) (room wide_length) o (small wide_length) (fitting else_is_misfit) n;
+      lifetimes = e.lives_after ∙ lookup_lasting (table wide_length) (name wide_length) a.limit (size wide_length) (room wide_length) o (small wide_length) (fitting else_is_misfit) n;
+    }

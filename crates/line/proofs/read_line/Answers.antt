@@ -18,8 +18,11 @@ line c = c.args.line.now
 abbrev room : After-clear → ℕ
 room c = length c.args.out.now
 
+abbrev clear : Else-line-end-ne10 → After-clear
+clear c = record { before = c.before.before.before.before.before.before; type_inv = record { line = c.shared_slice_known-1.given } }
+
 -- an octet of 10 ends the line
-ends : (c : Else-line-end-ne10) → end_of (line record { before = c.before.before.before.before.before.before; type_inv = record { line = c.shared_slice_known-1.given } }) ≡ 10
+ends : (c : Else-line-end-ne10) → end_of (line (clear c)) ≡ 10
 unfolding end_of
 ends c = c.if-line-end-ne10.false
 
@@ -29,37 +32,45 @@ none l e h = let z : get_or l (length l - 1) 0 ≡ 0 = get_or-eq_default l 0 (om
 
 pub returns-then-n-eq0 : goal.returns-then-n-eq0
 returns-then-n-eq0 c =
-    let y = read_refused (line (goal.at.returns-then-n-eq0 c).After-clear) _ (room (goal.at.returns-then-n-eq0 c).After-clear) c.clear.ensures 20 c.refused.result c.refused.ensures (λ z. omega arith) (number_unended (line (goal.at.returns-then-n-eq0 c).After-clear) (room (goal.at.returns-then-n-eq0 c).After-clear) (none (line (goal.at.returns-then-n-eq0 c).After-clear) c.if-n-eq0.true)) in
+    let here = (goal.at.returns-then-n-eq0 c).After-clear in
+    let y = read_refused (line here) _ (room here) c.clear.ensures 20 c.refused.result c.refused.ensures (λ z. omega arith) (number_unended (line here) (room here) (none (line here) c.if-n-eq0.true)) in
     record { value = y.0; out_after = y.1 }
 
 pub returns-then-line-end-ne10 : goal.returns-then-line-end-ne10
 unfolding end_of
 returns-then-line-end-ne10 c =
-    let y = read_refused (line (goal.at.returns-then-line-end-ne10 c).After-clear) _ (room (goal.at.returns-then-line-end-ne10 c).After-clear) c.clear.ensures 20 c.refused-then-line-end-ne10.result c.refused-then-line-end-ne10.ensures (λ z. omega arith) (number_unended (line (goal.at.returns-then-line-end-ne10 c).After-clear) (room (goal.at.returns-then-line-end-ne10 c).After-clear) c.if-line-end-ne10.true) in
+    let here = (goal.at.returns-then-line-end-ne10 c).After-clear in
+    let y = read_refused (line here) _ (room here) c.clear.ensures 20 c.refused-then-line-end-ne10.result c.refused-then-line-end-ne10.ensures (λ z. omega arith) (number_unended (line here) (room here) c.if-line-end-ne10.true) in
     record { value = y.0; out_after = y.1 }
 
 pub slice_bounds-read_words-end : goal.slice_bounds-read_words-end
-slice_bounds-read_words-end c = let l = line (goal.at.slice_bounds-read_words-end c).After-clear in omega (arith, length-take-le (length l - 1) l (omega arith))
+slice_bounds-read_words-end c =
+    let here = (goal.at.slice_bounds-read_words-end c).After-clear in
+    let l = line here in omega (arith, length-take-le (length l - 1) l (omega arith))
 
 pub returns-then-number-ne0 : goal.returns-then-number-ne0
 unfolding words_in body_of
 returns-then-number-ne0 c =
+    let at_clear = (goal.at.returns-then-number-ne0 c).After-clear in
+    let else_line_end_ne10 = (goal.at.returns-then-number-ne0 c).Else-line-end-ne10 in
     let r = c.read_words-r in
-    let y = read_refused (line (goal.at.returns-then-number-ne0 c).After-clear) _ (room (goal.at.returns-then-number-ne0 c).After-clear) c.clear.ensures r.result.number c.refused-then-number-ne0.result c.refused-then-number-ne0.ensures c.if-number-ne0.true
-    (number_earned (line (goal.at.returns-then-number-ne0 c).After-clear) (room (goal.at.returns-then-number-ne0 c).After-clear) r.result.number (ends (goal.at.returns-then-number-ne0 c).Else-line-end-ne10) (sym r.ensures.number) c.if-number-ne0.true) in
+    let y = read_refused (line at_clear) _ (room at_clear) c.clear.ensures r.result.number c.refused-then-number-ne0.result c.refused-then-number-ne0.ensures c.if-number-ne0.true (number_earned (line at_clear) (room at_clear) r.result.number (ends else_line_end_ne10) (sym r.ensures.number) c.if-number-ne0.true) in
     record { value = y.0; out_after = y.1 }
 
 pub returns-then-out-lt-RECORD : goal.returns-then-out-lt-RECORD
 unfolding words_in body_of
 returns-then-out-lt-RECORD c =
+    let at_clear = (goal.at.returns-then-out-lt-RECORD c).After-clear in
+    let else_line_end_ne10 = (goal.at.returns-then-out-lt-RECORD c).Else-line-end-ne10 in
     let r = c.read_words-r in
-    let y = read_refused (line (goal.at.returns-then-out-lt-RECORD c).After-clear) _ (room (goal.at.returns-then-out-lt-RECORD c).After-clear) c.clear.ensures 23 c.refused-then-out-lt-RECORD.result c.refused-then-out-lt-RECORD.ensures (λ z. omega arith)
-    (number_short (line (goal.at.returns-then-out-lt-RECORD c).After-clear) (room (goal.at.returns-then-out-lt-RECORD c).After-clear) (ends (goal.at.returns-then-out-lt-RECORD c).Else-line-end-ne10) (sym r.ensures.number ∙ c.if-number-ne0.false) (omega arith)) in
+    let y = read_refused (line at_clear) _ (room at_clear) c.clear.ensures 23 c.refused-then-out-lt-RECORD.result c.refused-then-out-lt-RECORD.ensures (λ z. omega arith) (number_short (line at_clear) (room at_clear) (ends else_line_end_ne10) (sym r.ensures.number ∙ c.if-number-ne0.false) (omega arith)) in
     record { value = y.0; out_after = y.1 }
 
 pub returns : goal.returns
 unfolding words_in body_of
 returns c =
+    let at_clear = (goal.at.returns c).After-clear in
+    let else_line_end_ne10 = (goal.at.returns c).Else-line-end-ne10 in
     let r = c.read_words-r in
-    let y = read_done (line (goal.at.returns c).After-clear) _ _ (room (goal.at.returns c).After-clear) r.result.fields (ends (goal.at.returns c).Else-line-end-ne10) (sym r.ensures.number ∙ c.if-number-ne0.false) (omega arith) (r.ensures.fields c.if-number-ne0.false) c.clear.ensures c.write_fields.ensures in
+    let y = read_done (line at_clear) _ _ (room at_clear) r.result.fields (ends else_line_end_ne10) (sym r.ensures.number ∙ c.if-number-ne0.false) (omega arith) (r.ensures.fields c.if-number-ne0.false) c.clear.ensures c.write_fields.ensures in
     record { value = y.0; out_after = y.1 }

@@ -29,20 +29,28 @@ pub overflow_add-result : goal.overflow_add-result
 overflow_add-result c = omega (arith, near (goal.at.overflow_add-result c).At-loop-at)
 
 pub returns-then-name-at-eq0 : goal.returns-then-name-at-eq0
-returns-then-name-at-eq0 c = let l = c.loop-at in merging_end (name (goal.at.returns-then-name-at-eq0 c).At-loop-at) l.out l.at l.to l.invariant.0 c.if-name-at-eq0.true
+returns-then-name-at-eq0 c =
+    let here = (goal.at.returns-then-name-at-eq0 c).At-loop-at in
+    let l = c.loop-at in merging_end (name here) l.out l.at l.to l.invariant.0 c.if-name-at-eq0.true
 
 pub next-t-requires : goal.next-t-requires
 next-t-requires c =
-    let m = c.loop-at.invariant.0 in record { begins = m.begins; to_le_at = (m.low, m.clean, m.room, omega (arith, c.if-name-at-eq0.false, near (goal.at.next-t-requires c).At-loop-at)) }
+    let here = (goal.at.next-t-requires c).At-loop-at in
+    let m = c.loop-at.invariant.0 in
+    record {
+      begins = m.begins;
+      to_le_at = (m.low, m.clean, m.room, omega (arith, c.if-name-at-eq0.false, near here));
+    }
 
 pub loop-at-smaller : goal.loop-at-smaller
 loop-at-smaller c = omega (arith, near (goal.at.loop-at-smaller c).At-loop-at, c.next-t.ensures.on)
 
 pub loop-at-preserved : goal.loop-at-preserved
 loop-at-preserved c =
+    let here = (goal.at.loop-at-preserved c).At-loop-at in
     let l = c.loop-at in
     let n = c.next-t in
-    (merging_turn (name (goal.at.loop-at-preserved c).At-loop-at) l.out _ l.at l.to n.result l.invariant.0 n.ensures n.auto.out, refl, l.invariant.2)
+    (merging_turn (name here) l.out _ l.at l.to n.result l.invariant.0 n.ensures n.auto.out, refl, l.invariant.2)
 
 pub returns : goal.returns
 returns c = let z : ⊥ = omega (arith, near (goal.at.returns c).At-loop-at, c.loop-at.invariant.1, c.loop-at-test.false) in absurd z

@@ -23,26 +23,48 @@ record Inside (c : Start) : Type 0 where
   room : length c.args.out.now ≡ 255
 
 inside : (c : Start) → Inside c
-inside c = let p = c.requires in record { there = begins_inside (name c) c.args.at p.begins; short = p.begins.short; low = p.to_le_at.0; room = p.to_le_at.2 }
+inside c =
+    let p = c.requires in
+    record {
+      there = begins_inside (name c) c.args.at p.begins;
+      short = p.begins.short;
+      low = p.to_le_at.0;
+      room = p.to_le_at.2;
+    }
 
-bits_there : (c : Then-x-eq65) → AtBits (name c.before.before.before.before.before) c.args.at (count_for (get_or (name c.before.before.before.before.before) (c.args.at + 1) 0))
-bits_there c = at_bits (name c.before.before.before.before.before) c.args.at (count_for (get_or (name c.before.before.before.before.before) (c.args.at + 1) 0)) c.requires.begins c.if-x-eq65.true refl
+abbrev start : Then-x-eq65 → Start
+start c = c.before.before.before.before.before
 
-bits_here : (c : After-count-n) → AtBits (name c.before.before.before.before.before.before.before) c.args.at c.count-n.result
-bits_here c = at_bits (name c.before.before.before.before.before.before.before) c.args.at c.count-n.result c.requires.begins c.if-x-eq65.true c.count-n.ensures.0
+bits_there : (c : Then-x-eq65) → AtBits (name (start c)) c.args.at (count_for (get_or (name (start c)) (c.args.at + 1) 0))
+bits_there c = at_bits (name (start c)) c.args.at (count_for (get_or (name (start c)) (c.args.at + 1) 0)) c.requires.begins c.if-x-eq65.true refl
+
+abbrev start_of_count_n : After-count-n → Start
+start_of_count_n c = c.before.before.before.before.before.before.before
+
+bits_here : (c : After-count-n) → AtBits (name (start_of_count_n c)) c.args.at c.count-n.result
+bits_here c = at_bits (name (start_of_count_n c)) c.args.at c.count-n.result c.requires.begins c.if-x-eq65.true c.count-n.ensures.0
+
+abbrev start_of_pack_run_r : After-pack_run-r → Start
+start_of_pack_run_r c = c.before.before.before.before.before.before.before.before.before
+
+abbrev count_n : After-pack_run-r → After-count-n
+count_n c = record { before = c.before.before.before; type_inv = record { name = c.shared_slice_known-then-x-eq65-1.given; out = c.slice_known-1.given } }
 
 -- there is room for the bits of the label itself
 ready : (c : After-pack_run-r) → Ready c.pack_run-r.new.out c.pack_run-r.result.packer c.count-n.result
 ready c =
     let n = c.count-n.result in
     let r = c.pack_run-r in
-    let w = inside c.before.before.before.before.before.before.before.before.before in
-    ran_ready (name c.before.before.before.before.before.before.before.before.before) c.args.out.now _ c.args.at n n c.args.to r.result (bits_here record { before = c.before.before.before; type_inv = record { name = c.shared_slice_known-then-x-eq65-1.given; out = c.slice_known-1.given } }) r.ensures r.auto.out (omega arith)
+    let w = inside (start_of_pack_run_r c) in
+    ran_ready (name (start_of_pack_run_r c)) c.args.out.now _ c.args.at n n c.args.to r.result (bits_here (count_n c)) r.ensures r.auto.out (omega arith)
 
-word_here : (c : After-wide-n) → AtOrdinary (name c.before.before.before.before.before.before) c.args.at (c.wide-n.result + 1)
+abbrev start_of_wide_n : After-wide-n → Start
+start_of_wide_n c = c.before.before.before.before.before.before
+
+word_here : (c : After-wide-n) → AtOrdinary (name (start_of_wide_n c)) c.args.at (c.wide-n.result + 1)
 word_here c =
     let u = c.requires.to_le_at in
-    at_ordinary (name c.before.before.before.before.before.before) c.args.at (c.wide-n.result + 1) c.requires.begins (λ h. omega arith) c.if-x-eq65.false (omega arith)
+    at_ordinary (name (start_of_wide_n c)) c.args.at (c.wide-n.result + 1) c.requires.begins (λ h. omega arith) c.if-x-eq65.false (omega arith)
 
 -- ---- and what it owes
 pub bounds-name-at : goal.bounds-name-at
@@ -62,30 +84,39 @@ overflow_add-e-then-x-eq65 c = omega (arith, inside (goal.at.overflow_add-e-then
 
 pub pack_run-r-requires : goal.pack_run-r-requires
 pack_run-r-requires c =
-    let w = inside (goal.at.pack_run-r-requires c).Start in
-    let b = bits_here (goal.at.pack_run-r-requires c).After-count-n in record { begins = b.begins; sum_bound = (omega arith, omega (arith, b.inside), c.requires.to_le_at.1) }
+    let start = (goal.at.pack_run-r-requires c).Start in
+    let count_n = (goal.at.pack_run-r-requires c).After-count-n in
+    let w = inside start in
+    let b = bits_here count_n in record { begins = b.begins; sum_bound = (omega arith, omega (arith, b.inside), c.requires.to_le_at.1) }
 
 pub append-q-requires : goal.append-q-requires
 append-q-requires c =
-    record { ready = ready (goal.at.append-q-requires c).After-pack_run-r; n_bound = (c.count-n.ensures.2, (bits_here (goal.at.append-q-requires c).After-count-n).inside) }
+    let pack_run_r = (goal.at.append-q-requires c).After-pack_run-r in
+    let count_n = (goal.at.append-q-requires c).After-count-n in
+    record { ready = ready pack_run_r; n_bound = (c.count-n.ensures.2, (bits_here count_n).inside) }
 
 pub flush-t-requires : goal.flush-t-requires
 flush-t-requires c =
+    let start = (goal.at.flush-t-requires c).Start in
+    let count_n = (goal.at.flush-t-requires c).After-count-n in
+    let pack_run_r = (goal.at.flush-t-requires c).After-pack_run-r in
     let q = c.append-q in
-    let bs = unpack c.count-n.result (drop (c.args.at + 2) (name (goal.at.flush-t-requires c).Start)) in
+    let bs = unpack c.count-n.result (drop (c.args.at + 2) (name start)) in
     ready_after _ _ c.pack_run-r.result.packer q.result bs 0 q.ensures q.auto.out
-    (ready_less _ c.pack_run-r.result.packer (length bs + 0) c.count-n.result (omega (arith, (bits_here (goal.at.flush-t-requires c).After-count-n).size)) (ready (goal.at.flush-t-requires c).After-pack_run-r))
+    (ready_less _ c.pack_run-r.result.packer (length bs + 0) c.count-n.result (omega (arith, (bits_here count_n).size)) (ready pack_run_r))
 
 pub returns-then-x-eq65 : goal.returns-then-x-eq65
 returns-then-x-eq65 c =
+    let here = (goal.at.returns-then-x-eq65 c).After-count-n in
     let a = c.args in
-    moved_run a.name.now a.out.now _ _ _ a.at c.count-n.result a.to c.flush-t.result c.pack_run-r.result c.append-q.result (bits_here (goal.at.returns-then-x-eq65 c).After-count-n) c.requires.to_le_at.0
-    c.pack_run-r.ensures c.append-q.ensures c.flush-t.ensures
+    moved_run a.name.now a.out.now _ _ _ a.at c.count-n.result a.to c.flush-t.result c.pack_run-r.result c.append-q.result (bits_here here) c.requires.to_le_at.0 c.pack_run-r.ensures c.append-q.ensures c.flush-t.ensures
 
 pub copy-requires : goal.copy-requires
 copy-requires c =
-    let w = inside (goal.at.copy-requires c).Start in
-    let b = word_here (goal.at.copy-requires c).After-wide-n in
+    let start = (goal.at.copy-requires c).Start in
+    let wide_n = (goal.at.copy-requires c).After-wide-n in
+    let w = inside start in
+    let b = word_here wide_n in
     (b.inside, omega (arith, b.inside))
 
 pub overflow_add-result : goal.overflow_add-result
@@ -100,6 +131,8 @@ overflow_add-result-2 c =
 
 pub returns : goal.returns
 returns c =
+    let start = (goal.at.returns c).Start in
+    let wide_n = (goal.at.returns c).After-wide-n in
     let a = c.args in
-    let w = inside (goal.at.returns c).Start in
-    moved_ordinary a.name.now a.out.now _ a.at (c.wide-n.result + 1) a.to (word_here (goal.at.returns c).After-wide-n) w.low (omega arith) (omega arith) c.requires.to_le_at.1 c.copy.ensures
+    let w = inside start in
+    moved_ordinary a.name.now a.out.now _ a.at (c.wide-n.result + 1) a.to (word_here wide_n) w.low (omega arith) (omega arith) c.requires.to_le_at.1 c.copy.ensures

@@ -55,12 +55,14 @@ first_repeat-j-requires c =
 
 pub returns-then-j-n : goal.returns-then-j-n
 returns-then-j-n c =
-    let w = sought (goal.at.returns-then-j-n c).After-first_repeat-j in
-    let e = number_repeat (table (goal.at.returns-then-j-n c).After-first_repeat-j) w.0 w.1 w.2 (omega (arith, w.3, c.if-j-n.true, c.first_repeat-j.ensures)) in
-    c.told-then-j-n.ensures ∙ replied (table (goal.at.returns-then-j-n c).After-first_repeat-j) 3 _ 4 e (fault_three (table (goal.at.returns-then-j-n c).After-first_repeat-j) e ∙ λ j. record { index = sym c.first_repeat-j.ensures j; field = 4 })
+    let here = (goal.at.returns-then-j-n c).After-first_repeat-j in
+    let w = sought here in
+    let e = number_repeat (table here) w.0 w.1 w.2 (omega (arith, w.3, c.if-j-n.true, c.first_repeat-j.ensures)) in
+    c.told-then-j-n.ensures ∙ replied (table here) 3 _ 4 e (fault_three (table here) e ∙ λ j. record { index = sym c.first_repeat-j.ensures j; field = 4 })
 
 pub returns : goal.returns
 returns c =
-    let w = sought (goal.at.returns c).After-first_repeat-j in
-    let e = number_none (table (goal.at.returns c).After-first_repeat-j) w.0 w.1 w.2 (omega (arith, w.3, c.if-j-n.false, c.first_repeat-j.ensures)) in
-    c.told-2.ensures ∙ replied (table (goal.at.returns c).After-first_repeat-j) 0 0 0 e (fault_other (table (goal.at.returns c).After-first_repeat-j) (λ h. omega arith) (λ h. omega arith))
+    let here = (goal.at.returns c).After-first_repeat-j in
+    let w = sought here in
+    let e = number_none (table here) w.0 w.1 w.2 (omega (arith, w.3, c.if-j-n.false, c.first_repeat-j.ensures)) in
+    c.told-2.ensures ∙ replied (table here) 0 0 0 e (fault_other (table here) (λ h. omega arith) (λ h. omega arith))

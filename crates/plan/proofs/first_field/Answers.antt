@@ -16,23 +16,41 @@ use Rattle.plan.proofs.first_field.Goals as goal
 abbrev row_type : After-type_good → List ℕ
 row_type c = c.args.row.now
 
+abbrev type_good : After-prefix_good → After-type_good
+type_good c = record { before = c.before.before.before; type_inv = record { row = c.shared_slice_known-1.given } }
+
 abbrev row_prefix : After-prefix_good → List ℕ
-row_prefix c = row_type record { before = c.before.before.before; type_inv = record { row = c.shared_slice_known-1.given } }
+row_prefix c = row_type (type_good c)
+
+abbrev prefix_good : After-zero_of → After-prefix_good
+prefix_good c = record { before = c.before.before.before; type_inv = record { row = c.shared_slice_known-1.given } }
 
 abbrev row_zero : After-zero_of → List ℕ
-row_zero c = row_prefix record { before = c.before.before.before; type_inv = record { row = c.shared_slice_known-1.given } }
+row_zero c = row_prefix (prefix_good c)
+
+abbrev zero_of : After-address_good → After-zero_of
+zero_of c = record { before = c.before.before.before; type_inv = record { row = c.shared_slice_known-1.given } }
 
 abbrev row_address : After-address_good → List ℕ
-row_address c = row_zero record { before = c.before.before.before; type_inv = record { row = c.shared_slice_known-1.given } }
+row_address c = row_zero (zero_of c)
+
+abbrev address_good : After-slot_good → After-address_good
+address_good c = record { before = c.before.before.before.before; type_inv = record { row = c.shared_slice_known-1.given } }
 
 abbrev row_owner : After-slot_good → List ℕ
-row_owner c = row_address record { before = c.before.before.before.before; type_inv = record { row = c.shared_slice_known-1.given } }
+row_owner c = row_address (address_good c)
+
+abbrev slot_good_of_target_good : After-target_good → After-slot_good
+slot_good_of_target_good c = record { before = c.before.before.before; type_inv = record { row = c.shared_slice_known-1.given } }
 
 abbrev row_target : After-target_good → List ℕ
-row_target c = row_owner record { before = c.before.before.before; type_inv = record { row = c.shared_slice_known-1.given } }
+row_target c = row_owner (slot_good_of_target_good c)
+
+abbrev target_good : After-ttl_good → After-target_good
+target_good c = record { before = c.before.before.before; type_inv = record { row = c.shared_slice_known-1.given } }
 
 abbrev row_ttl : After-ttl_good → List ℕ
-row_ttl c = row_target record { before = c.before.before.before; type_inv = record { row = c.shared_slice_known-1.given } }
+row_ttl c = row_target (target_good c)
 
 -- the answer of each test is that of its field
 answer_type : (c : After-type_good) → c.type_good.result ≡ field_good (row_type c) 0
@@ -63,48 +81,114 @@ answer_ttl : (c : After-ttl_good) → c.ttl_good.result ≡ field_good (row_ttl 
 unfolding tests_of field_good
 answer_ttl c = c.ttl_good.ensures
 
+abbrev type_good_of_else_not_type_good : Else-not-type_good → After-type_good
+type_good_of_else_not_type_good c = record { before = c.before.before; type_inv = record { row = c.shared_slice_known-1.given } }
+
 -- past a test, the later fields are left
-past_type : (c : Else-not-type_good) → fault_of (row_type record { before = c.before.before; type_inv = record { row = c.shared_slice_known-1.given } }) ≡ left_from (row_type record { before = c.before.before; type_inv = record { row = c.shared_slice_known-1.given } }) 1
-past_type c = fault_from (row_type record { before = c.before.before; type_inv = record { row = c.shared_slice_known-1.given } }) ∙ field_passes (row_type record { before = c.before.before; type_inv = record { row = c.shared_slice_known-1.given } }) 0 (omega arith) (answer_type record { before = c.before.before; type_inv = record { row = c.shared_slice_known-1.given } }) (ap not c.if-not-type_good.false)
+past_type : (c : Else-not-type_good) → fault_of (row_type (type_good_of_else_not_type_good c)) ≡ left_from (row_type (type_good_of_else_not_type_good c)) 1
+past_type c =
+    fault_from (row_type (type_good_of_else_not_type_good c)) ∙ field_passes (row_type (type_good_of_else_not_type_good c)) 0 (omega arith) (answer_type (type_good_of_else_not_type_good c)) (ap not c.if-not-type_good.false)
 
-past_prefix : (c : Else-not-prefix_good) → fault_of (row_prefix record { before = c.before.before; type_inv = record { row = c.shared_slice_known-1.given } }) ≡ left_from (row_prefix record { before = c.before.before; type_inv = record { row = c.shared_slice_known-1.given } }) 2
-past_prefix c = past_type record { before = c.before.before.before; type_inv = record { row = c.shared_slice_known-1.given } } ∙ field_passes (row_prefix record { before = c.before.before; type_inv = record { row = c.shared_slice_known-1.given } }) 1 (omega arith) (answer_prefix record { before = c.before.before; type_inv = record { row = c.shared_slice_known-1.given } }) (ap not c.if-not-prefix_good.false)
+abbrev prefix_good_of_else_not_prefix_good : Else-not-prefix_good → After-prefix_good
+prefix_good_of_else_not_prefix_good c = record { before = c.before.before; type_inv = record { row = c.shared_slice_known-1.given } }
 
-past_zero : (c : Else-zero_of-ne0) → fault_of (row_zero record { before = c.before.before; type_inv = record { row = c.shared_slice_known-1.given } }) ≡ left_from (row_zero record { before = c.before.before; type_inv = record { row = c.shared_slice_known-1.given } }) 3
-past_zero c = past_prefix record { before = c.before.before.before; type_inv = record { row = c.shared_slice_known-1.given } } ∙ field_passes (row_zero record { before = c.before.before; type_inv = record { row = c.shared_slice_known-1.given } }) 2 (omega arith) (answer_zero record { before = c.before.before; type_inv = record { row = c.shared_slice_known-1.given } }) (ap not (eq-eqb c.zero_of.result 0 c.if-zero_of-ne0.false))
+abbrev else_not_type_good : Else-not-prefix_good → Else-not-type_good
+else_not_type_good c = record { before = c.before.before.before; type_inv = record { row = c.shared_slice_known-1.given } }
 
-past_address : (c : Else-not-address_good) → fault_of (row_address record { before = c.before.before; type_inv = record { row = c.shared_slice_known-1.given } }) ≡ left_from (row_address record { before = c.before.before; type_inv = record { row = c.shared_slice_known-1.given } }) 4
-past_address c = past_zero record { before = c.before.before.before; type_inv = record { row = c.shared_slice_known-1.given } } ∙ field_passes (row_address record { before = c.before.before; type_inv = record { row = c.shared_slice_known-1.given } }) 3 (omega arith) (answer_address record { before = c.before.before; type_inv = record { row = c.shared_slice_known-1.given } }) (ap not c.if-not-address_good.false)
+past_prefix : (c : Else-not-prefix_good) → fault_of (row_prefix (prefix_good_of_else_not_prefix_good c)) ≡ left_from (row_prefix (prefix_good_of_else_not_prefix_good c)) 2
+past_prefix c =
+    past_type (else_not_type_good c) ∙ field_passes (row_prefix (prefix_good_of_else_not_prefix_good c)) 1 (omega arith) (answer_prefix (prefix_good_of_else_not_prefix_good c)) (ap not c.if-not-prefix_good.false)
 
-past_owner : (c : Else-not-slot_good) → fault_of (row_owner record { before = c.before.before; type_inv = record { row = c.shared_slice_known-1.given } }) ≡ left_from (row_owner record { before = c.before.before; type_inv = record { row = c.shared_slice_known-1.given } }) 5
-past_owner c = past_address record { before = c.before.before.before.before; type_inv = record { row = c.shared_slice_known-1.given } } ∙ field_passes (row_owner record { before = c.before.before; type_inv = record { row = c.shared_slice_known-1.given } }) 4 (omega arith) (answer_owner record { before = c.before.before; type_inv = record { row = c.shared_slice_known-1.given } }) (ap not c.if-not-slot_good.false)
+abbrev zero_of_of_else_zero_of_ne0 : Else-zero_of-ne0 → After-zero_of
+zero_of_of_else_zero_of_ne0 c = record { before = c.before.before; type_inv = record { row = c.shared_slice_known-1.given } }
 
-past_target : (c : Else-not-target_good) → fault_of (row_target record { before = c.before.before; type_inv = record { row = c.shared_slice_known-1.given } }) ≡ left_from (row_target record { before = c.before.before; type_inv = record { row = c.shared_slice_known-1.given } }) 6
-past_target c = past_owner record { before = c.before.before.before; type_inv = record { row = c.shared_slice_known-1.given } } ∙ field_passes (row_target record { before = c.before.before; type_inv = record { row = c.shared_slice_known-1.given } }) 5 (omega arith) (answer_target record { before = c.before.before; type_inv = record { row = c.shared_slice_known-1.given } }) (ap not c.if-not-target_good.false)
+abbrev else_not_prefix_good : Else-zero_of-ne0 → Else-not-prefix_good
+else_not_prefix_good c = record { before = c.before.before.before; type_inv = record { row = c.shared_slice_known-1.given } }
 
-past_ttl : (c : Else-not-ttl_good) → fault_of (row_ttl record { before = c.before.before; type_inv = record { row = c.shared_slice_known-1.given } }) ≡ left_from (row_ttl record { before = c.before.before; type_inv = record { row = c.shared_slice_known-1.given } }) 7
-past_ttl c = past_target record { before = c.before.before.before; type_inv = record { row = c.shared_slice_known-1.given } } ∙ field_passes (row_ttl record { before = c.before.before; type_inv = record { row = c.shared_slice_known-1.given } }) 6 (omega arith) (answer_ttl record { before = c.before.before; type_inv = record { row = c.shared_slice_known-1.given } }) (ap not c.if-not-ttl_good.false)
+past_zero : (c : Else-zero_of-ne0) → fault_of (row_zero (zero_of_of_else_zero_of_ne0 c)) ≡ left_from (row_zero (zero_of_of_else_zero_of_ne0 c)) 3
+past_zero c =
+    past_prefix (else_not_prefix_good c) ∙ field_passes (row_zero (zero_of_of_else_zero_of_ne0 c)) 2 (omega arith) (answer_zero (zero_of_of_else_zero_of_ne0 c)) (ap not (eq-eqb c.zero_of.result 0 c.if-zero_of-ne0.false))
+
+abbrev address_good_of_else_not_address_good : Else-not-address_good → After-address_good
+address_good_of_else_not_address_good c = record { before = c.before.before; type_inv = record { row = c.shared_slice_known-1.given } }
+
+abbrev else_zero_of_ne0 : Else-not-address_good → Else-zero_of-ne0
+else_zero_of_ne0 c = record { before = c.before.before.before; type_inv = record { row = c.shared_slice_known-1.given } }
+
+past_address : (c : Else-not-address_good) → fault_of (row_address (address_good_of_else_not_address_good c)) ≡ left_from (row_address (address_good_of_else_not_address_good c)) 4
+past_address c =
+    past_zero (else_zero_of_ne0 c) ∙ field_passes (row_address (address_good_of_else_not_address_good c)) 3 (omega arith) (answer_address (address_good_of_else_not_address_good c)) (ap not c.if-not-address_good.false)
+
+abbrev slot_good_of_else_not_slot_good : Else-not-slot_good → After-slot_good
+slot_good_of_else_not_slot_good c = record { before = c.before.before; type_inv = record { row = c.shared_slice_known-1.given } }
+
+abbrev else_not_address_good : Else-not-slot_good → Else-not-address_good
+else_not_address_good c = record { before = c.before.before.before.before; type_inv = record { row = c.shared_slice_known-1.given } }
+
+past_owner : (c : Else-not-slot_good) → fault_of (row_owner (slot_good_of_else_not_slot_good c)) ≡ left_from (row_owner (slot_good_of_else_not_slot_good c)) 5
+past_owner c =
+    past_address (else_not_address_good c) ∙ field_passes (row_owner (slot_good_of_else_not_slot_good c)) 4 (omega arith) (answer_owner (slot_good_of_else_not_slot_good c)) (ap not c.if-not-slot_good.false)
+
+abbrev target_good_of_else_not_target_good : Else-not-target_good → After-target_good
+target_good_of_else_not_target_good c = record { before = c.before.before; type_inv = record { row = c.shared_slice_known-1.given } }
+
+abbrev else_not_slot_good : Else-not-target_good → Else-not-slot_good
+else_not_slot_good c = record { before = c.before.before.before; type_inv = record { row = c.shared_slice_known-1.given } }
+
+past_target : (c : Else-not-target_good) → fault_of (row_target (target_good_of_else_not_target_good c)) ≡ left_from (row_target (target_good_of_else_not_target_good c)) 6
+past_target c =
+    past_owner (else_not_slot_good c) ∙ field_passes (row_target (target_good_of_else_not_target_good c)) 5 (omega arith) (answer_target (target_good_of_else_not_target_good c)) (ap not c.if-not-target_good.false)
+
+abbrev ttl_good : Else-not-ttl_good → After-ttl_good
+ttl_good c = record { before = c.before.before; type_inv = record { row = c.shared_slice_known-1.given } }
+
+abbrev else_not_target_good : Else-not-ttl_good → Else-not-target_good
+else_not_target_good c = record { before = c.before.before.before; type_inv = record { row = c.shared_slice_known-1.given } }
+
+past_ttl : (c : Else-not-ttl_good) → fault_of (row_ttl (ttl_good c)) ≡ left_from (row_ttl (ttl_good c)) 7
+past_ttl c =
+    past_target (else_not_target_good c) ∙ field_passes (row_ttl (ttl_good c)) 6 (omega arith) (answer_ttl (ttl_good c)) (ap not c.if-not-ttl_good.false)
 
 pub returns-then-not-type_good : goal.returns-then-not-type_good
-returns-then-not-type_good c = sym (fault_from (row_type (goal.at.returns-then-not-type_good c).After-type_good) ∙ field_fails (row_type (goal.at.returns-then-not-type_good c).After-type_good) 0 (omega arith) (answer_type (goal.at.returns-then-not-type_good c).After-type_good) (ap not c.if-not-type_good.true))
+returns-then-not-type_good c =
+    let here = (goal.at.returns-then-not-type_good c).After-type_good in
+    sym (fault_from (row_type here) ∙ field_fails (row_type here) 0 (omega arith) (answer_type here) (ap not c.if-not-type_good.true))
 
 pub returns-then-not-prefix_good : goal.returns-then-not-prefix_good
-returns-then-not-prefix_good c = sym (past_type (goal.at.returns-then-not-prefix_good c).Else-not-type_good ∙ field_fails (row_prefix (goal.at.returns-then-not-prefix_good c).After-prefix_good) 1 (omega arith) (answer_prefix (goal.at.returns-then-not-prefix_good c).After-prefix_good) (ap not c.if-not-prefix_good.true))
+returns-then-not-prefix_good c =
+    let else_not_type_good = (goal.at.returns-then-not-prefix_good c).Else-not-type_good in
+    let prefix_good = (goal.at.returns-then-not-prefix_good c).After-prefix_good in
+    sym (past_type else_not_type_good ∙ field_fails (row_prefix prefix_good) 1 (omega arith) (answer_prefix prefix_good) (ap not c.if-not-prefix_good.true))
 
 pub returns-then-zero_of-ne0 : goal.returns-then-zero_of-ne0
-returns-then-zero_of-ne0 c = sym (past_prefix (goal.at.returns-then-zero_of-ne0 c).Else-not-prefix_good ∙ field_fails (row_zero (goal.at.returns-then-zero_of-ne0 c).After-zero_of) 2 (omega arith) (answer_zero (goal.at.returns-then-zero_of-ne0 c).After-zero_of) (ap not (ne_eqb c.zero_of.result 0 c.if-zero_of-ne0.true)))
+returns-then-zero_of-ne0 c =
+    let else_not_prefix_good = (goal.at.returns-then-zero_of-ne0 c).Else-not-prefix_good in
+    let at_zero_of = (goal.at.returns-then-zero_of-ne0 c).After-zero_of in
+    sym (past_prefix else_not_prefix_good ∙ field_fails (row_zero at_zero_of) 2 (omega arith) (answer_zero at_zero_of) (ap not (ne_eqb c.zero_of.result 0 c.if-zero_of-ne0.true)))
 
 pub returns-then-not-address_good : goal.returns-then-not-address_good
-returns-then-not-address_good c = sym (past_zero (goal.at.returns-then-not-address_good c).Else-zero_of-ne0 ∙ field_fails (row_address (goal.at.returns-then-not-address_good c).After-address_good) 3 (omega arith) (answer_address (goal.at.returns-then-not-address_good c).After-address_good) (ap not c.if-not-address_good.true))
+returns-then-not-address_good c =
+    let else_zero_of_ne0 = (goal.at.returns-then-not-address_good c).Else-zero_of-ne0 in
+    let address_good = (goal.at.returns-then-not-address_good c).After-address_good in
+    sym (past_zero else_zero_of_ne0 ∙ field_fails (row_address address_good) 3 (omega arith) (answer_address address_good) (ap not c.if-not-address_good.true))
 
 pub returns-then-not-slot_good : goal.returns-then-not-slot_good
-returns-then-not-slot_good c = sym (past_address (goal.at.returns-then-not-slot_good c).Else-not-address_good ∙ field_fails (row_owner (goal.at.returns-then-not-slot_good c).After-slot_good) 4 (omega arith) (answer_owner (goal.at.returns-then-not-slot_good c).After-slot_good) (ap not c.if-not-slot_good.true))
+returns-then-not-slot_good c =
+    let else_not_address_good = (goal.at.returns-then-not-slot_good c).Else-not-address_good in
+    let at_slot_good = (goal.at.returns-then-not-slot_good c).After-slot_good in
+    sym (past_address else_not_address_good ∙ field_fails (row_owner at_slot_good) 4 (omega arith) (answer_owner at_slot_good) (ap not c.if-not-slot_good.true))
 
 pub returns-then-not-target_good : goal.returns-then-not-target_good
-returns-then-not-target_good c = sym (past_owner (goal.at.returns-then-not-target_good c).Else-not-slot_good ∙ field_fails (row_target (goal.at.returns-then-not-target_good c).After-target_good) 5 (omega arith) (answer_target (goal.at.returns-then-not-target_good c).After-target_good) (ap not c.if-not-target_good.true))
+returns-then-not-target_good c =
+    let else_not_slot_good = (goal.at.returns-then-not-target_good c).Else-not-slot_good in
+    let target_good = (goal.at.returns-then-not-target_good c).After-target_good in
+    sym (past_owner else_not_slot_good ∙ field_fails (row_target target_good) 5 (omega arith) (answer_target target_good) (ap not c.if-not-target_good.true))
 
 pub returns-then-not-ttl_good : goal.returns-then-not-ttl_good
-returns-then-not-ttl_good c = sym (past_target (goal.at.returns-then-not-ttl_good c).Else-not-target_good ∙ field_fails (row_ttl (goal.at.returns-then-not-ttl_good c).After-ttl_good) 6 (omega arith) (answer_ttl (goal.at.returns-then-not-ttl_good c).After-ttl_good) (ap not c.if-not-ttl_good.true))
+returns-then-not-ttl_good c =
+    let else_not_target_good = (goal.at.returns-then-not-ttl_good c).Else-not-target_good in
+    let ttl_good = (goal.at.returns-then-not-ttl_good c).After-ttl_good in
+    sym (past_target else_not_target_good ∙ field_fails (row_ttl ttl_good) 6 (omega arith) (answer_ttl ttl_good) (ap not c.if-not-ttl_good.true))
 
 pub returns : goal.returns
 returns c = sym (past_ttl c ∙ first_end (λ i. not (field_good (row_ttl (goal.at.returns c).After-ttl_good) i)) field_count field_count (omega arith))

@@ -28,15 +28,14 @@ returns-then-n-rest c = refusing _ _ 10 c.missed-then-n-rest.ensures (read_suffi
 
 pub returns : goal.returns
 returns c =
-    let d = rdata (goal.at.returns c).Else-n-rest in
-    let f = fronted (goal.at.returns c).Else-n-rest in
+    let here = (goal.at.returns c).Else-n-rest in
+    let d = rdata here in
+    let f = fronted here in
     let l = prefix_of d in
     let n = c.suffix_octets-rest in
     let after = rest_after d _ (ap (λ (m : ℕ). 1 + m) n.ensures.0) in
     let e = ap (name_number l) after ∙ sym (read_ending d f) in
     let r = c.ending.ensures in (
       r.0 ∙ e,
-      λ z.
-          let z = e ∙ z in
-          (found_sound d l 1 _ _ f.low f.long (omega (arith, f.long, n.ensures.0)) z (r.1 z), found_value d l 1 _ _ f.low f.long (omega (arith, f.long, n.ensures.0)) z (r.1 z) ∙ value_at_lem d _ (ap (λ (m : ℕ). 1 + m) n.ensures.0)),
+      λ z. let z = e ∙ z in (found_sound d l 1 _ _ f.low f.long (omega (arith, f.long, n.ensures.0)) z (r.1 z), found_value d l 1 _ _ f.low f.long (omega (arith, f.long, n.ensures.0)) z (r.1 z) ∙ value_at_lem d _ (ap (λ (m : ℕ). 1 + m) n.ensures.0)),
     )

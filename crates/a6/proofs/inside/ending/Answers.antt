@@ -21,42 +21,53 @@ prefix s = s.args.prefix
 abbrev rest : Start → List ℕ
 rest s = drop s.args.rest s.args.rdata.now
 
+abbrev start : After-scan-t → Start
+start c = c.before.before.before.before.before
+
 -- what the scan has found
-found : (c : After-scan-t) → name_found (prefix c.before.before.before.before.before) (rest c.before.before.before.before.before) ≡ c.scan-t.result
+found : (c : After-scan-t) → name_found (prefix (start c)) (rest (start c)) ≡ c.scan-t.result
 found c =
     let a = c.args in
-    found_some a.prefix (rest c.before.before.before.before.before) c.if-prefix-eq0.false ∙ sym (c.scan-t.ensures ∙ ap (λ (xs : List ℕ). scanned (scan_of xs)) (part_rest a.rdata.now a.rest))
+    found_some a.prefix (rest (start c)) c.if-prefix-eq0.false ∙ sym (c.scan-t.ensures ∙ ap (λ (xs : List ℕ). scanned (scan_of xs)) (part_rest a.rdata.now a.rest))
 
-number : (c : After-scan-t) → (name_found (prefix c.before.before.before.before.before) (rest c.before.before.before.before.before)).number ≡ c.scan-t.result.number
+number : (c : After-scan-t) → (name_found (prefix (start c)) (rest (start c))).number ≡ c.scan-t.result.number
 number c = ap (λ (t : Scanned). t.number) (found c)
 
-used : (c : After-scan-t) → (name_found (prefix c.before.before.before.before.before) (rest c.before.before.before.before.before)).used ≡ c.scan-t.result.used
+used : (c : After-scan-t) → (name_found (prefix (start c)) (rest (start c))).used ≡ c.scan-t.result.used
 used c = ap (λ (t : Scanned). t.used) (found c)
 
 pub returns-then-left-gt0 : goal.returns-then-left-gt0
 returns-then-left-gt0 c =
-    let f = found_none (prefix (goal.at.returns-then-left-gt0 c).Start) (rest (goal.at.returns-then-left-gt0 c).Start) c.if-prefix-eq0.true in
-    refusing _ _ 12 c.missed.ensures (ending_left (prefix (goal.at.returns-then-left-gt0 c).Start) (rest (goal.at.returns-then-left-gt0 c).Start) (rw f) (rw f (omega (arith, length-drop c.args.rest c.args.rdata.now, c.if-left-gt0.true))))
+    let here = (goal.at.returns-then-left-gt0 c).Start in
+    let f = found_none (prefix here) (rest here) c.if-prefix-eq0.true in
+    refusing _ _ 12 c.missed.ensures (ending_left (prefix here) (rest here) (rw f) (rw f (omega (arith, length-drop c.args.rest c.args.rdata.now, c.if-left-gt0.true))))
 
 pub returns-then-prefix-eq0 : goal.returns-then-prefix-eq0
 returns-then-prefix-eq0 c =
-    let f = found_none (prefix (goal.at.returns-then-prefix-eq0 c).Start) (rest (goal.at.returns-then-prefix-eq0 c).Start) c.if-prefix-eq0.true in
-    let e = ending_done (prefix (goal.at.returns-then-prefix-eq0 c).Start) (rest (goal.at.returns-then-prefix-eq0 c).Start) (rw f) (rw f (omega (arith, length-drop c.args.rest c.args.rdata.now, c.if-left-gt0.false))) in
-    (sym e, λ z. ap (λ (b : Bool). found_at (prefix (goal.at.returns-then-prefix-eq0 c).Start) c.args.suffix c.args.rest b) (sym (ap (λ (t : Scanned). t.standard) f)))
+    let here = (goal.at.returns-then-prefix-eq0 c).Start in
+    let f = found_none (prefix here) (rest here) c.if-prefix-eq0.true in
+    let e = ending_done (prefix here) (rest here) (rw f) (rw f (omega (arith, length-drop c.args.rest c.args.rdata.now, c.if-left-gt0.false))) in
+    (sym e, λ z. ap (λ (b : Bool). found_at (prefix here) c.args.suffix c.args.rest b) (sym (ap (λ (t : Scanned). t.standard) f)))
 
 pub returns-then-number-ne0 : goal.returns-then-number-ne0
 returns-then-number-ne0 c =
+    let start = (goal.at.returns-then-number-ne0 c).Start in
+    let scan_t = (goal.at.returns-then-number-ne0 c).After-scan-t in
     let bad = c.if-number-ne0.true in
-    let e = ending_name (prefix (goal.at.returns-then-number-ne0 c).Start) (rest (goal.at.returns-then-number-ne0 c).Start) (λ z. bad (sym (number (goal.at.returns-then-number-ne0 c).After-scan-t) ∙ z)) ∙ number (goal.at.returns-then-number-ne0 c).After-scan-t in
+    let e = ending_name (prefix start) (rest start) (λ z. bad (sym (number scan_t) ∙ z)) ∙ number scan_t in
     (c.missed-then-number-ne0.ensures ∙ sym e, λ z. absurd (bad (sym e ∙ z)))
 
 pub returns-then-used-left : goal.returns-then-used-left
 returns-then-used-left c =
+    let start = (goal.at.returns-then-used-left c).Start in
+    let scan_t = (goal.at.returns-then-used-left c).After-scan-t in
     let a = c.args in
-    refusing _ _ 12 c.missed-then-used-left.ensures (ending_left a.prefix (rest (goal.at.returns-then-used-left c).Start) (number (goal.at.returns-then-used-left c).After-scan-t ∙ c.if-number-ne0.false) (omega (arith, used (goal.at.returns-then-used-left c).After-scan-t, length-drop a.rest a.rdata.now, c.if-used-left.true)))
+    refusing _ _ 12 c.missed-then-used-left.ensures (ending_left a.prefix (rest start) (number scan_t ∙ c.if-number-ne0.false) (omega (arith, used scan_t, length-drop a.rest a.rdata.now, c.if-used-left.true)))
 
 pub returns : goal.returns
 returns c =
+    let start = (goal.at.returns c).Start in
+    let scan_t = (goal.at.returns c).After-scan-t in
     let a = c.args in
-    let e = ending_done a.prefix (rest (goal.at.returns c).Start) (number (goal.at.returns c).After-scan-t ∙ c.if-number-ne0.false) (omega (arith, used (goal.at.returns c).After-scan-t, length-drop a.rest a.rdata.now, c.if-used-left.false)) in
-    (sym e, λ z. ap (λ (b : Bool). found_at a.prefix a.suffix a.rest b) (sym (ap (λ (t : Scanned). t.standard) (found (goal.at.returns c).After-scan-t))))
+    let e = ending_done a.prefix (rest start) (number scan_t ∙ c.if-number-ne0.false) (omega (arith, used scan_t, length-drop a.rest a.rdata.now, c.if-used-left.false)) in
+    (sym e, λ z. ap (λ (b : Bool). found_at a.prefix a.suffix a.rest b) (sym (ap (λ (t : Scanned). t.standard) (found scan_t))))

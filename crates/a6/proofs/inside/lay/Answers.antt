@@ -33,15 +33,26 @@ number s = laid_number (value s) s.args.before (room s)
 counted : (c : After-value_number-wrong) → (c.wide-count.result ≡ c.args.size) × (c.args.size ≤ length c.args.octets.now)
 counted c = let w = c.wide-count.ensures in (w.0, omega (arith, w, c.requires.1))
 
-zeros : (c : After-value_number-wrong) → c.clear.new.out ≡ blank (room c.before.before.before.before.before.before.before.before.before.before)
+abbrev start : After-value_number-wrong → Start
+start c = c.before.before.before.before.before.before.before.before.before.before
+
+zeros : (c : After-value_number-wrong) → c.clear.new.out ≡ blank (room (start c))
 zeros c = c.clear.ensures
 
-number_is : (c : After-value_number-wrong) → c.value_number-wrong.result ≡ value_number (value c.before.before.before.before.before.before.before.before.before.before)
-number_is c = let a = c.args in c.value_number-wrong.ensures ∙ ap (λ (n : ℕ). value_number (by_parts a.prefix a.address.now a.octets.now n)) (counted c).0
+number_is : (c : After-value_number-wrong) → c.value_number-wrong.result ≡ value_number (value (start c))
+number_is c =
+    let a = c.args in
+    c.value_number-wrong.ensures ∙ ap (λ (n : ℕ). value_number (by_parts a.prefix a.address.now a.octets.now n)) (counted c).0
+
+abbrev start_of_else_wrong_ne0 : Else-wrong-ne0 → Start
+start_of_else_wrong_ne0 c = c.before.before.before.before.before.before.before.before.before.before.before
+
+abbrev value_number_wrong : Else-wrong-ne0 → After-value_number-wrong
+value_number_wrong c = record { before = c.before.before; type_inv = record { out = c.slice_known-2-1.given; octets = c.shared_slice_known-2-1.given; address = c.shared_slice_known-1.given } }
 
 -- where it is 0: the name's octets, as they are lent
-done : (c : Else-wrong-ne0) → value_number (value c.before.before.before.before.before.before.before.before.before.before.before) ≡ 0
-done c = sym (number_is record { before = c.before.before; type_inv = record { out = c.slice_known-2-1.given; octets = c.shared_slice_known-2-1.given; address = c.shared_slice_known-1.given } }) ∙ c.if-wrong-ne0.false
+done : (c : Else-wrong-ne0) → value_number (value (start_of_else_wrong_ne0 c)) ≡ 0
+done c = sym (number_is (value_number_wrong c)) ∙ c.if-wrong-ne0.false
 
 long : (c : After-value_number-wrong) → length (take c.wide-count.result c.args.octets.now) ≡ c.wide-count.result
 long c = length-take-le c.wide-count.result c.args.octets.now (omega (arith, counted c))
@@ -51,21 +62,44 @@ after c = c.larger-after.ensures ∙ ap (max c.args.before) c.wide.ensures.0
 
 pub returns-then-wrong-ne0 : goal.returns-then-wrong-ne0
 returns-then-wrong-ne0 c =
+    let start = (goal.at.returns-then-wrong-ne0 c).Start in
+    let value_number_wrong = (goal.at.returns-then-wrong-ne0 c).After-value_number-wrong in
     let k = c.value_number-wrong.result in
-    let e : k ≡ number (goal.at.returns-then-wrong-ne0 c).Start = number_is (goal.at.returns-then-wrong-ne0 c).After-value_number-wrong ∙ sym (else_kept (value_number (value (goal.at.returns-then-wrong-ne0 c).Start)) _ (λ z. c.if-wrong-ne0.true (number_is (goal.at.returns-then-wrong-ne0 c).After-value_number-wrong ∙ z))) in record { value = c.refused.ensures ∙ refused_answer k _ e c.if-wrong-ne0.true (length (whole (goal.at.returns-then-wrong-ne0 c).Start)) 0; out_after = zeros (goal.at.returns-then-wrong-ne0 c).After-value_number-wrong ∙ refused_out k _ e c.if-wrong-ne0.true (whole (goal.at.returns-then-wrong-ne0 c).Start) (room (goal.at.returns-then-wrong-ne0 c).Start) }
+    let e : k ≡ number start = number_is value_number_wrong ∙ sym (else_kept (value_number (value start)) _ (λ z. c.if-wrong-ne0.true (number_is value_number_wrong ∙ z))) in
+    record {
+      value = c.refused.ensures ∙ refused_answer k _ e c.if-wrong-ne0.true (length (whole start)) 0;
+      out_after = zeros value_number_wrong ∙ refused_out k _ e c.if-wrong-ne0.true (whole start) (room start);
+    }
 
 pub slice_bounds-put_data-end : goal.slice_bounds-put_data-end
 slice_bounds-put_data-end c = sym (long (goal.at.slice_bounds-put_data-end c).After-value_number-wrong)
 
 pub put_data-requires : goal.put_data-requires
 put_data-requires c =
-    (c.requires.0, c.requires.2, omega (arith, after (goal.at.put_data-requires c).After-larger-after, (writable (value (goal.at.put_data-requires c).Start) (done (goal.at.put_data-requires c).Else-wrong-ne0)).low, c.requires.2), omega (arith, long (goal.at.put_data-requires c).After-value_number-wrong, counted (goal.at.put_data-requires c).After-value_number-wrong, c.requires.1), zeros (goal.at.put_data-requires c).After-value_number-wrong ∙ ap blank (sym c.clear.auto.out))
+    let larger_after = (goal.at.put_data-requires c).After-larger-after in
+    let start = (goal.at.put_data-requires c).Start in
+    let else_wrong_ne0 = (goal.at.put_data-requires c).Else-wrong-ne0 in
+    let value_number_wrong = (goal.at.put_data-requires c).After-value_number-wrong in (
+      c.requires.0,
+      c.requires.2,
+      omega (arith, after larger_after, (writable (value start) (done else_wrong_ne0)).low, c.requires.2),
+      omega (arith, long value_number_wrong, counted value_number_wrong, c.requires.1),
+      zeros value_number_wrong ∙ ap blank (sym c.clear.auto.out),
+    )
 
 pub returns : goal.returns
 unfolding octets_of
 returns c =
+    let start = (goal.at.returns c).Start in
+    let larger_after = (goal.at.returns c).After-larger-after in
+    let value_number_wrong = (goal.at.returns c).After-value_number-wrong in
+    let else_wrong_ne0 = (goal.at.returns c).Else-wrong-ne0 in
     let p = c.put_data.ensures in
     let a = c.args in
     let k = c.clear.auto.out in
-    let d : laid a.prefix a.address.now a.before c.larger-after.result (take c.wide-count.result a.octets.now) ≡ whole (goal.at.returns c).Start = λ i. laid a.prefix a.address.now a.before (after (goal.at.returns c).After-larger-after i) (take ((counted (goal.at.returns c).After-value_number-wrong).0 i) a.octets.now) in
-    let f : room_number (whole (goal.at.returns c).Start) (room (goal.at.returns c).Start) ≡ number (goal.at.returns c).Start = sym (else_later (value_number (value (goal.at.returns c).Start)) _ (done (goal.at.returns c).Else-wrong-ne0)) in record { value = p.value ∙ (λ i. answer_by (room_number (d i) (k i)) (length (d i)) 0) ∙ ap (λ (m : ℕ). answer_by m (length (whole (goal.at.returns c).Start)) 0) f; out_after = p.out_after ∙ (λ i. out_by (room_number (d i) (k i)) (d i) (k i)) ∙ ap (λ (m : ℕ). out_by m (whole (goal.at.returns c).Start) (room (goal.at.returns c).Start)) f }
+    let d : laid a.prefix a.address.now a.before c.larger-after.result (take c.wide-count.result a.octets.now) ≡ whole start = λ i. laid a.prefix a.address.now a.before (after larger_after i) (take ((counted value_number_wrong).0 i) a.octets.now) in
+    let f : room_number (whole start) (room start) ≡ number start = sym (else_later (value_number (value start)) _ (done else_wrong_ne0)) in
+    record {
+      value = p.value ∙ (λ i. answer_by (room_number (d i) (k i)) (length (d i)) 0) ∙ ap (λ (m : ℕ). answer_by m (length (whole start)) 0) f;
+      out_after = p.out_after ∙ (λ i. out_by (room_number (d i) (k i)) (d i) (k i)) ∙ ap (λ (m : ℕ). out_by m (whole start) (room start)) f;
+    }

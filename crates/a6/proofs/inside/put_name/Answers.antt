@@ -20,13 +20,18 @@ returns-then-prefix-eq0 c =
 
 pub put_standard-n-requires : goal.put_standard-n-requires
 put_standard-n-requires c =
+    let here = (goal.at.put_standard-n-requires c).Else-prefix-eq0 in
     let a = c.args in
-    let p = c.requires in
-    (name_formed a.prefix a.rest.now p.0 (small (goal.at.put_standard-n-requires c).Else-prefix-eq0) c.if-prefix-eq0.false, p.1 ∙ ap (λ (t : Scanned). t.standard) (found_some a.prefix a.rest.now c.if-prefix-eq0.false), p.2)
+    let p = c.requires in (
+      name_formed a.prefix a.rest.now p.0 (small here) c.if-prefix-eq0.false,
+      p.1 ∙ ap (λ (t : Scanned). t.standard) (found_some a.prefix a.rest.now c.if-prefix-eq0.false),
+      p.2,
+    )
 
 pub returns : goal.returns
 unfolding name_of
 returns c =
+    let here = (goal.at.returns c).Else-prefix-eq0 in
     let m = c.put_standard-n.ensures in
-    let e = name_standard c.args.prefix c.args.rest.now c.requires.0 (small (goal.at.returns c).Else-prefix-eq0) c.if-prefix-eq0.false in
+    let e = name_standard c.args.prefix c.args.rest.now c.requires.0 (small here) c.if-prefix-eq0.false in
     (m.0 ∙ sym (ap (λ (n : Name). n.octets) e), m.1 ∙ sym (ap (λ (n : Name). n.length) e))

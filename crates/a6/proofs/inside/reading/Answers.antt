@@ -18,7 +18,8 @@ sound c = c.requires c.if-told-ne0.false
 
 -- what is left of the data, as the part that is lent
 part : (c : Else-told-ne0) → take (length c.args.rdata.now - c.args.found.rest) (drop c.args.found.rest c.args.rdata.now) ≡ drop c.args.found.rest c.args.rdata.now
-part c = part_rest c.args.rdata.now c.args.found.rest
+part c =
+    part_rest c.args.rdata.now c.args.found.rest
 
 pub returns-then-told-ne0 : goal.returns-then-told-ne0
 returns-then-told-ne0 c = c.refused.ensures ∙ reading_refused _ _ c.if-told-ne0.true
@@ -36,13 +37,15 @@ slice_bounds-put_name-start c = omega (arith, (sound (goal.at.slice_bounds-put_n
 pub put_name-length-requires : goal.put_name-length-requires
 unfolding blank
 put_name-length-requires c =
+    let here = (goal.at.put_name-length-requires c).Else-told-ne0 in
     let l = c.args.found.prefix in
-    (ap (name_number l) (part (goal.at.put_name-length-requires c).Else-told-ne0) ∙ (sound (goal.at.put_name-length-requires c).Else-told-ne0).named, (sound (goal.at.put_name-length-requires c).Else-told-ne0).told ∙ ap (λ (xs : List ℕ). (name_found l xs).standard) (sym (part (goal.at.put_name-length-requires c).Else-told-ne0)), refl)
+    (ap (name_number l) (part here) ∙ (sound here).named, (sound here).told ∙ ap (λ (xs : List ℕ). (name_found l xs).standard) (sym (part here)), refl)
 
 pub returns : goal.returns
 returns c =
+    let here = (goal.at.returns c).Else-told-ne0 in
     let l = c.args.found.prefix in
     let n = c.put_name-length.ensures in
-    let name = ap (name_in l) (part (goal.at.returns c).Else-told-ne0) in
+    let name = ap (name_in l) (part here) in
     ap (λ (v : Value). record { number = 0; value = v }) (parts_value _ c.args.found _ _ _ c.put_address.ensures (n.0 ∙ ap (λ (m : Name). m.octets) name) (n.1 ∙ ap (λ (m : Name). m.length) name))
     ∙ reading_done _ _ c.if-told-ne0.false

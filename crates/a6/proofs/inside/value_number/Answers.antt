@@ -22,12 +22,21 @@ value s = by_parts s.args.prefix s.args.address.now s.args.octets.now s.args.cou
 low : (c : After-name_fits) → c.args.prefix ≤ 128
 low c = c.if-prefix-gt-LONGEST.false
 
-fits : (c : After-name_fits) → name_fits c.args.prefix (octets_of (value c.before.before.before.before.before).name) ≡ c.name_fits.result
+abbrev start : After-name_fits → Start
+start c = c.before.before.before.before.before
+
+fits : (c : After-name_fits) → name_fits c.args.prefix (octets_of (value (start c)).name) ≡ c.name_fits.result
 unfolding octets_of
 fits c = sym c.name_fits.ensures
 
-fitting : (c : Else-not-name_fits) → name_fits c.args.prefix (octets_of (value c.before.before.before.before.before.before).name) ≡ true
-fitting c = fits record { before = c.before.before; type_inv = record { octets = c.shared_slice_known-2-1.given; address = c.shared_slice_known-1.given } } ∙ c.if-not-name_fits.false
+abbrev start_of_else_not_name_fits : Else-not-name_fits → Start
+start_of_else_not_name_fits c = c.before.before.before.before.before.before
+
+abbrev name_fits_of_else_not_name_fits : Else-not-name_fits → After-name_fits
+name_fits_of_else_not_name_fits c = record { before = c.before.before; type_inv = record { octets = c.shared_slice_known-2-1.given; address = c.shared_slice_known-1.given } }
+
+fitting : (c : Else-not-name_fits) → name_fits c.args.prefix (octets_of (value (start_of_else_not_name_fits c)).name) ≡ true
+fitting c = fits (name_fits_of_else_not_name_fits c) ∙ c.if-not-name_fits.false
 
 fills : (c : Else-not-is_blank) → is_blank (drop c.args.count c.args.octets.now) ≡ true
 fills c = sym c.is_blank.ensures ∙ c.if-not-is_blank.false
@@ -41,16 +50,29 @@ slice_bounds-name_fits-end c =
 
 pub returns-then-not-name_fits : goal.returns-then-not-name_fits
 returns-then-not-name_fits c =
-    sym (value_name (value (goal.at.returns-then-not-name_fits c).Start) (low (goal.at.returns-then-not-name_fits c).After-name_fits) (fits (goal.at.returns-then-not-name_fits c).After-name_fits ∙ c.if-not-name_fits.true))
+    let start = (goal.at.returns-then-not-name_fits c).Start in
+    let at_name_fits = (goal.at.returns-then-not-name_fits c).After-name_fits in
+    sym (value_name (value start) (low at_name_fits) (fits at_name_fits ∙ c.if-not-name_fits.true))
 
 pub returns-then-not-is_blank : goal.returns-then-not-is_blank
 returns-then-not-is_blank c =
-    sym (value_filled (value (goal.at.returns-then-not-is_blank c).Start) (low (goal.at.returns-then-not-is_blank c).After-name_fits) (fitting (goal.at.returns-then-not-is_blank c).Else-not-name_fits) (sym c.is_blank.ensures ∙ c.if-not-is_blank.true))
+    let start = (goal.at.returns-then-not-is_blank c).Start in
+    let at_name_fits = (goal.at.returns-then-not-is_blank c).After-name_fits in
+    let else_not_name_fits = (goal.at.returns-then-not-is_blank c).Else-not-name_fits in
+    sym (value_filled (value start) (low at_name_fits) (fitting else_not_name_fits) (sym c.is_blank.ensures ∙ c.if-not-is_blank.true))
 
 pub returns-then-not-is_clear : goal.returns-then-not-is_clear
 returns-then-not-is_clear c =
-    sym (value_clear (value (goal.at.returns-then-not-is_clear c).Start) (low (goal.at.returns-then-not-is_clear c).After-name_fits) (fitting (goal.at.returns-then-not-is_clear c).Else-not-name_fits) (fills (goal.at.returns-then-not-is_clear c).Else-not-is_blank) (sym c.is_clear.ensures ∙ c.if-not-is_clear.true))
+    let start = (goal.at.returns-then-not-is_clear c).Start in
+    let at_name_fits = (goal.at.returns-then-not-is_clear c).After-name_fits in
+    let else_not_name_fits = (goal.at.returns-then-not-is_clear c).Else-not-name_fits in
+    let else_not_is_blank = (goal.at.returns-then-not-is_clear c).Else-not-is_blank in
+    sym (value_clear (value start) (low at_name_fits) (fitting else_not_name_fits) (fills else_not_is_blank) (sym c.is_clear.ensures ∙ c.if-not-is_clear.true))
 
 pub returns : goal.returns
 returns c =
-    sym (value_done (value (goal.at.returns c).Start) (record { low = low (goal.at.returns c).After-name_fits; fits = fitting (goal.at.returns c).Else-not-name_fits; filled = fills (goal.at.returns c).Else-not-is_blank; clear = sym c.is_clear.ensures ∙ c.if-not-is_clear.false }))
+    let start = (goal.at.returns c).Start in
+    let at_name_fits = (goal.at.returns c).After-name_fits in
+    let else_not_name_fits = (goal.at.returns c).Else-not-name_fits in
+    let else_not_is_blank = (goal.at.returns c).Else-not-is_blank in
+    sym (value_done (value start) (record { low = low at_name_fits; fits = fitting else_not_name_fits; filled = fills else_not_is_blank; clear = sym c.is_clear.ensures ∙ c.if-not-is_clear.false }))

@@ -32,15 +32,16 @@ returns-then-prefix-gt-LONGEST c = refusing _ _ 9 c.missed-then-prefix-gt-LONGES
 
 pub returns : goal.returns
 returns c =
-    let d = rdata (goal.at.returns c).Else-prefix-gt-LONGEST in
+    let here = (goal.at.returns c).Else-prefix-gt-LONGEST in
+    let d = rdata here in
     let l = prefix_part d in
-    let f = fronted (goal.at.returns c).Else-prefix-gt-LONGEST in
+    let f = fronted here in
     let whole = c.wide-whole.result in
     let n : whole ≡ 16 - suffix_octets l = omega (arith, c.wide-whole.ensures, f.low) in
     let r = c.ending.ensures in (
-      r.0 ∙ number (goal.at.returns c).Else-prefix-gt-LONGEST,
+      r.0 ∙ number here,
       λ z.
-          let z = number (goal.at.returns c).Else-prefix-gt-LONGEST ∙ z in
+          let z = number here ∙ z in
           let i : whole + suffix_octets l ≤ length d = omega (arith, f.long, n) in
           (found_sound d l whole 17 _ f.low i f.long z (r.1 z), found_value d l whole 17 _ f.low i f.long z (r.1 z) ∙ value_at_lem d f whole n),
     )

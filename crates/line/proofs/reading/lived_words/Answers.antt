@@ -40,10 +40,11 @@ is_type-requires c = within c
 
 pub overflow_add-result : goal.overflow_add-result
 overflow_add-result c =
+    let here = (goal.at.overflow_add-result c).After-pass-at in
     let s = c.args.body.now in
     let t = sym c.is_type.ensures ∙ c.if-is_type.true in
     let e = type_end s c.pass-at.result t in
-    let w = end_within s c.pass-at.result (within (goal.at.overflow_add-result c).After-pass-at) in
+    let w = end_within s c.pass-at.result (within here) in
     search rules
 
 pub returns-then-is_type : goal.returns-then-is_type
@@ -58,9 +59,10 @@ decimal_word-d-requires c = within (goal.at.decimal_word-d-requires c).After-pas
 
 pub returns-then-d-eq20 : goal.returns-then-d-eq20
 returns-then-d-eq20 c =
+    let here = (goal.at.returns-then-d-eq20 c).Else-is_type in
     let s = c.args.body.now in
     let d = c.decimal_word-d in
-    lived_unformed s c.args.from c.not_lived.result (untyped (goal.at.returns-then-d-eq20 c).Else-is_type) c.not_lived.ensures
+    lived_unformed s c.args.from c.not_lived.result (untyped here) c.not_lived.ensures
     (ap (λ (q : ℕ). decimal_number max_ttl (word_at s q)) (sym c.pass-at.ensures) ∙ sym d.ensures.number ∙ c.if-d-eq20.true)
 
 pub is_type-requires-2 : goal.is_type-requires-2
@@ -68,29 +70,34 @@ is_type-requires-2 c = second_within c
 
 pub returns-then-not-is_type : goal.returns-then-not-is_type
 returns-then-not-is_type c =
+    let else_is_type = (goal.at.returns-then-not-is_type c).Else-is_type in
+    let pass_place = (goal.at.returns-then-not-is_type c).After-pass-place in
     let s = c.args.body.now in
-    lived_untyped s c.args.from c.not_lived-then-not-is_type.result (untyped (goal.at.returns-then-not-is_type c).Else-is_type) c.not_lived-then-not-is_type.ensures
-    (ap (λ (q : ℕ). same (word_at s q) a6_word) (sym (second (goal.at.returns-then-not-is_type c).After-pass-place)) ∙ sym c.is_type-2.ensures ∙ c.if-not-is_type.true)
+    lived_untyped s c.args.from c.not_lived-then-not-is_type.result (untyped else_is_type) c.not_lived-then-not-is_type.ensures
+    (ap (λ (q : ℕ). same (word_at s q) a6_word) (sym (second pass_place)) ∙ sym c.is_type-2.ensures ∙ c.if-not-is_type.true)
 
 pub overflow_cast-result : goal.overflow_cast-result
 overflow_cast-result c = let v = c.decimal_word-d.ensures.value c.if-d-eq20.false in search rules
 
 pub overflow_add-result-2 : goal.overflow_add-result-2
 overflow_add-result-2 c =
+    let here = (goal.at.overflow_add-result-2 c).After-pass-place in
     let s = c.args.body.now in
     let p = c.pass-place.result in
     let t = sym c.is_type-2.ensures ∙ c.if-not-is_type.false in
     let e = type_end s p t in
-    let w = end_within s p (second_within (goal.at.overflow_add-result-2 c).After-pass-place) in
+    let w = end_within s p (second_within here) in
     search rules
 
 pub returns : goal.returns
 returns c =
+    let else_is_type = (goal.at.returns c).Else-is_type in
+    let pass_place = (goal.at.returns c).After-pass-place in
     let s = c.args.body.now in
     let p = c.pass-at.ensures in
     let d = c.decimal_word-d.ensures in
-    lived_both s c.args.from _ (untyped (goal.at.returns c).Else-is_type)
-    (ap (λ (q : ℕ). same (word_at s q) a6_word) (sym (second (goal.at.returns c).After-pass-place)) ∙ sym c.is_type-2.ensures ∙ c.if-not-is_type.false)
+    lived_both s c.args.from _ (untyped else_is_type)
+    (ap (λ (q : ℕ). same (word_at s q) a6_word) (sym (second pass_place)) ∙ sym c.is_type-2.ensures ∙ c.if-not-is_type.false)
     (d.number ∙ ap (λ (q : ℕ). decimal_number max_ttl (word_at s q)) p)
     (d.value c.if-d-eq20.false ∙ ap (λ (q : ℕ). min (max_ttl + 1) (decimal_of (word_at s q))) p)
-    (ap (λ (q : ℕ). q + 2) (second (goal.at.returns c).After-pass-place))
+    (ap (λ (q : ℕ). q + 2) (second pass_place))

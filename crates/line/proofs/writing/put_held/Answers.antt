@@ -26,9 +26,10 @@ slice_bounds-put_name-end c =
 
 pub put_name-requires : goal.put_name-requires
 put_name-requires c =
+    let here = (goal.at.put_name-requires c).After-wide-n in
     let n = c.args.name in
     let e = octets_taken n c.wide-n.result c.wide-n.ensures.0 in
-    let t = length-take-le c.wide-n.result n.octets (fits (goal.at.put_name-requires c).After-wide-n) in
+    let t = length-take-le c.wide-n.result n.octets (fits here) in
     (rw e (octets_formed_lem n c.requires.0), omega (arith, c.requires.1, c.wide-n.ensures.1))
 
 pub returns : goal.returns

@@ -24,8 +24,7 @@ bits_walk t c =
     let i = c.past_letters-i.result in
     let n = c.bit_octets-size.result in
     let e = c.if-a-i.false in
-    sym c.past_letters-i.ensures.kept
-    ∙ walk_bits a.a.now a.b.now a.end c.requires.0 c.requires.1 i (omega arith) e (i + 1 + n) n c.bit_octets-size.ensures.0 refl (c.past_letters-i.ensures.bits (omega arith) e)
+    sym c.past_letters-i.ensures.kept ∙ walk_bits a.a.now a.b.now a.end c.requires.0 c.requires.1 i (omega arith) e (i + 1 + n) n c.bit_octets-size.ensures.0 refl (c.past_letters-i.ensures.bits (omega arith) e)
 
 pub returns-then-end-i : goal.returns-then-end-i
 returns-then-end-i t c =
@@ -45,8 +44,9 @@ same_labels-requires t c = (omega (arith, c.past_letters-i.ensures.on), c.requir
 
 pub returns-then-not-same_labels : goal.returns-then-not-same_labels
 returns-then-not-same_labels t c =
+    let here = (goal.at.returns-then-not-same_labels t c).After-bit_octets-size in
     let r = c.same_labels in
-    sym (bits_walk t (goal.at.returns-then-not-same_labels t c).After-bit_octets-size ∙ ap (λ (v : Bool). v && part t (goal.at.returns-then-not-same_labels t c).After-bit_octets-size) (sym r.ensures ∙ c.if-not-same_labels.true))
+    sym (bits_walk t here ∙ ap (λ (v : Bool). v && part t here) (sym r.ensures ∙ c.if-not-same_labels.true))
 
 pub same_part-requires : goal.same_part-requires
 same_part-requires t c =
@@ -54,5 +54,6 @@ same_part-requires t c =
 
 pub returns : goal.returns
 returns t c =
+    let here = (goal.at.returns t c).After-bit_octets-size in
     let r = c.same_labels in
-    c.same_part.ensures ∙ sym (bits_walk t (goal.at.returns t c).After-bit_octets-size ∙ ap (λ (v : Bool). v && part t (goal.at.returns t c).After-bit_octets-size) (sym r.ensures ∙ c.if-not-same_labels.false))
+    c.same_part.ensures ∙ sym (bits_walk t here ∙ ap (λ (v : Bool). v && part t here) (sym r.ensures ∙ c.if-not-same_labels.false))

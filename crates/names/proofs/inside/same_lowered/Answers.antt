@@ -39,13 +39,14 @@ loop-i-init c = (omega arith, refl, omega arith, refl)
 
 pub loop-i-preserved : goal.loop-i-preserved
 loop-i-preserved c =
+    let here = (goal.at.loop-i-preserved c).After-lowered-in-loop-i in
     let l = c.loop-i in (
       omega arith,
       refl,
       omega arith,
       elim c.if-lowered.branch [
-        | then-lowered w ↦ ap (λ (v : Bool). v && left (goal.at.loop-i-preserved c).After-lowered-in-loop-i (l.i + 1)) w.alike-is ∙ sym (and_false l.alike) ∙ ap (λ (v : Bool). l.alike && v) (sym (off (goal.at.loop-i-preserved c).After-lowered-in-loop-i w.if-lowered.true)) ∙ l.invariant.3
-        | else-lowered w ↦ ap (λ (v : Bool). v && left (goal.at.loop-i-preserved c).After-lowered-in-loop-i (l.i + 1)) w.alike-is ∙ ap (λ (v : Bool). l.alike && v) (sym (on (goal.at.loop-i-preserved c).After-lowered-in-loop-i w.if-lowered.false)) ∙ l.invariant.3
+        | then-lowered w ↦ ap (λ (v : Bool). v && left here (l.i + 1)) w.alike-is ∙ sym (and_false l.alike) ∙ ap (λ (v : Bool). l.alike && v) (sym (off here w.if-lowered.true)) ∙ l.invariant.3
+        | else-lowered w ↦ ap (λ (v : Bool). v && left here (l.i + 1)) w.alike-is ∙ ap (λ (v : Bool). l.alike && v) (sym (on here w.if-lowered.false)) ∙ l.invariant.3
       ],
     )
 

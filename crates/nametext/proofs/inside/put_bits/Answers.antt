@@ -26,13 +26,15 @@ room c =
     let a = c.args in
     count_room (octets c) a.out.now _ a.n a.to c.put_digits-a.result c.requires.0 (held c) c.requires.2 (same c) c.put_digits-a.ensures
 
+abbrev put_digits_a : After-put_decimal-b → After-put_digits-a
+put_digits_a c = record { before = c.before.before.before.before.before; type_inv = record { name = c.shared_slice_known-1.given } }
+
 -- where the count is put too
 ended : (c : After-put_decimal-b) → let a = c.args in let e = c.put_decimal-b.new.out in let b = c.put_decimal-b.result in
-    (b < length e) × (length (set e b 93) ≡ length a.out.now) × (b < length a.out.now) × Put a.out.now (set e b 93) a.to (b + 1) (raw_bits a.n (octets record { before = c.before.before.before.before.before; type_inv = record { name = c.shared_slice_known-1.given } }))
+    (b < length e) × (length (set e b 93) ≡ length a.out.now) × (b < length a.out.now) × Put a.out.now (set e b 93) a.to (b + 1) (raw_bits a.n (octets (put_digits_a c)))
 ended c =
     let a = c.args in
-    bits_put (octets record { before = c.before.before.before.before.before; type_inv = record { name = c.shared_slice_known-1.given } }) a.out.now _ a.n a.to c.put_digits-a.result c.requires.0 (held record { before = c.before.before.before.before.before; type_inv = record { name = c.shared_slice_known-1.given } }) c.requires.2 (same record { before = c.before.before.before.before.before; type_inv = record { name = c.shared_slice_known-1.given } }) c.put_digits-a.ensures
-    _ c.put_decimal-b.result c.put_decimal-b.auto.out c.put_decimal-b.ensures
+    bits_put (octets (put_digits_a c)) a.out.now _ a.n a.to c.put_digits-a.result c.requires.0 (held (put_digits_a c)) c.requires.2 (same (put_digits_a c)) c.put_digits-a.ensures _ c.put_decimal-b.result c.put_decimal-b.auto.out c.put_decimal-b.ensures
 
 pub bounds-out-to-2 : goal.bounds-out-to-2
 bounds-out-to-2 c = simp length-set (omega arith)
@@ -44,13 +46,17 @@ pub put_digits-a-requires : goal.put_digits-a-requires
 put_digits-a-requires c = let a = c.args in let l = begun_length a.out.now a.to in (omega arith, omega arith)
 
 pub bounds-out-a : goal.bounds-out-a
-bounds-out-a c = omega (arith, room (goal.at.bounds-out-a c).After-put_digits-a, same (goal.at.bounds-out-a c).After-put_digits-a)
+bounds-out-a c =
+    let here = (goal.at.bounds-out-a c).After-put_digits-a in
+    omega (arith, room here, same here)
 
 pub overflow_add-a : goal.overflow_add-a
 overflow_add-a c = omega (arith, room (goal.at.overflow_add-a c).After-put_digits-a)
 
 pub put_decimal-b-requires : goal.put_decimal-b-requires
-put_decimal-b-requires c = simp length-set (omega (arith, room (goal.at.put_decimal-b-requires c).After-put_digits-a, same (goal.at.put_decimal-b-requires c).After-put_digits-a))
+put_decimal-b-requires c =
+    let here = (goal.at.put_decimal-b-requires c).After-put_digits-a in
+    simp length-set (omega (arith, room here, same here))
 
 pub bounds-out-b : goal.bounds-out-b
 bounds-out-b c = (ended (goal.at.bounds-out-b c).After-put_decimal-b).0

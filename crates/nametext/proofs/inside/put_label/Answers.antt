@@ -24,31 +24,62 @@ out c = c.args.out.now
 inside : (c : Start) → c.args.at < length (name c)
 inside c = begins_inside (name c) c.args.at c.requires.begins
 
-small : (c : After-shared_slice_known-1) → Small (name c.before.before)
+abbrev start : After-shared_slice_known-1 → Start
+start c = c.before.before
+
+small : (c : After-shared_slice_known-1) → Small (name (start c))
 small c = λ i. omega (arith, c.shared_slice_known-1.given i)
+
+abbrev start_of_count_n : After-count-n → Start
+start_of_count_n c = c.before.before.before.before.before.before.before
+
+abbrev shared_slice_known_1 : After-count-n → After-shared_slice_known-1
+shared_slice_known_1 c = record { before = c.before.before.before.before.before.before; type_inv = record { name = c.shared_slice_known-1.given } }
 
 -- a bit label whose count is known
 bits_room : (c : After-count-n) → let a = c.args in let n = c.count-n.result in (a.at + 2 + octets_for n ≤ length a.name.now) × (a.to + digits_for n + 8 < length a.out.now)
-bits_room c = let a = c.args in bits_inside (name c.before.before.before.before.before.before.before) (out c.before.before.before.before.before.before.before) (out c.before.before.before.before.before.before.before) a.at c.count-n.result a.to 0 (small record { before = c.before.before.before.before.before.before; type_inv = record { name = c.shared_slice_known-1.given } }) c.requires.begins c.requires.nonzero.1 c.if-x-eq65.true c.count-n.ensures.0
+bits_room c =
+    let a = c.args in
+    bits_inside (name (start_of_count_n c)) (out (start_of_count_n c)) (out (start_of_count_n c)) a.at c.count-n.result a.to 0 (small (shared_slice_known_1 c)) c.requires.begins c.requires.nonzero.1 c.if-x-eq65.true c.count-n.ensures.0
+
+abbrev start_of_put_bits_e : After-put_bits-e → Start
+start_of_put_bits_e c = c.before.before.before.before.before.before.before.before.before
+
+abbrev shared_slice_known_1_of_put_bits_e : After-put_bits-e → After-shared_slice_known-1
+shared_slice_known_1_of_put_bits_e c = record { before = c.before.before.before.before.before.before.before.before; type_inv = record { name = c.shared_slice_known-1.given } }
 
 bits_put : (c : After-put_bits-e) → let a = c.args in let e = c.put_bits-e.result in
     (e < length c.put_bits-e.new.out) × Labelled a.name.now a.out.now (set c.put_bits-e.new.out e 46) a.at a.to (placed (a.at + 2 + octets_for c.count-n.result) (e + 1))
 bits_put c =
     let n = c.count-n in
-    bits_labelled (name c.before.before.before.before.before.before.before.before.before) (out c.before.before.before.before.before.before.before.before.before) _ c.args.at n.result c.args.to c.put_bits-e.result (small record { before = c.before.before.before.before.before.before.before.before; type_inv = record { name = c.shared_slice_known-1.given } }) c.requires.begins c.requires.nonzero.1 c.if-x-eq65.true n.ensures.0 n.ensures.2 c.put_bits-e.auto.out c.put_bits-e.ensures
+    bits_labelled (name (start_of_put_bits_e c)) (out (start_of_put_bits_e c)) _ c.args.at n.result c.args.to c.put_bits-e.result (small (shared_slice_known_1_of_put_bits_e c)) c.requires.begins c.requires.nonzero.1 c.if-x-eq65.true n.ensures.0 n.ensures.2 c.put_bits-e.auto.out c.put_bits-e.ensures
 
 -- an ordinary label
 some : (c : Start) → get_or (name c) c.args.at 0 ≡ 0 → ⊥
 some c z = omega (arith, c.requires.nonzero.0)
 
+abbrev start_of_wide_n : After-wide-n → Start
+start_of_wide_n c = c.before.before.before.before.before.before
+
+abbrev shared_slice_known_1_of_wide_n : After-wide-n → After-shared_slice_known-1
+shared_slice_known_1_of_wide_n c = record { before = c.before.before.before.before.before; type_inv = record { name = c.shared_slice_known-1.given } }
+
 ordinary_room : (c : After-wide-n) → let a = c.args in let n = c.wide-n.result in (a.at + 1 + n ≤ length a.name.now) × (a.to + 4 * n < length a.out.now)
-ordinary_room c = let a = c.args in ordinary_inside (name c.before.before.before.before.before.before) (out c.before.before.before.before.before.before) (out c.before.before.before.before.before.before) a.at c.wide-n.result a.to 0 (small record { before = c.before.before.before.before.before; type_inv = record { name = c.shared_slice_known-1.given } }) c.requires.begins c.requires.nonzero.1 (some c.before.before.before.before.before.before) c.if-x-eq65.false c.wide-n.ensures.0
+ordinary_room c =
+    let a = c.args in
+    ordinary_inside (name (start_of_wide_n c)) (out (start_of_wide_n c)) (out (start_of_wide_n c)) a.at c.wide-n.result a.to 0 (small (shared_slice_known_1_of_wide_n c)) c.requires.begins c.requires.nonzero.1 (some (start_of_wide_n c)) c.if-x-eq65.false c.wide-n.ensures.0
+
+abbrev start_of_put_octets_e : After-put_octets-e → Start
+start_of_put_octets_e c = c.before.before.before.before.before.before.before.before
+
+abbrev shared_slice_known_1_of_put_octets_e : After-put_octets-e → After-shared_slice_known-1
+shared_slice_known_1_of_put_octets_e c = record { before = c.before.before.before.before.before.before.before; type_inv = record { name = c.shared_slice_known-1.given } }
 
 ordinary_put : (c : After-put_octets-e) → let a = c.args in let e = c.put_octets-e.result in
     (e < length c.put_octets-e.new.out) × Labelled a.name.now a.out.now (set c.put_octets-e.new.out e 46) a.at a.to (placed (a.at + 1 + c.wide-n.result) (e + 1))
 ordinary_put c =
     let n = c.wide-n in
-    ordinary_labelled (name c.before.before.before.before.before.before.before.before) (out c.before.before.before.before.before.before.before.before) _ c.args.at n.result c.args.to c.put_octets-e.result (small record { before = c.before.before.before.before.before.before.before; type_inv = record { name = c.shared_slice_known-1.given } }) c.requires.begins c.requires.nonzero.1 (some c.before.before.before.before.before.before.before.before) c.if-x-eq65.false n.ensures.0 c.put_octets-e.auto.out c.put_octets-e.ensures
+    ordinary_labelled (name (start_of_put_octets_e c)) (out (start_of_put_octets_e c)) _ c.args.at n.result c.args.to c.put_octets-e.result (small (shared_slice_known_1_of_put_octets_e c)) c.requires.begins c.requires.nonzero.1 (some (start_of_put_octets_e c)) c.if-x-eq65.false n.ensures.0 c.put_octets-e.auto.out c.put_octets-e.ensures
 
 pub bounds-name-at : goal.bounds-name-at
 bounds-name-at c = inside (goal.at.bounds-name-at c).Start
@@ -58,7 +89,8 @@ overflow_add-at c = omega (arith, inside (goal.at.overflow_add-at c).Start)
 
 pub bounds-name-at-then-x-eq65 : goal.bounds-name-at-then-x-eq65
 bounds-name-at-then-x-eq65 c =
-    let w = at_bits (name (goal.at.bounds-name-at-then-x-eq65 c).Start) c.args.at (count_for (get_or (name (goal.at.bounds-name-at-then-x-eq65 c).Start) (c.args.at + 1) 0)) c.requires.begins c.if-x-eq65.true refl in
+    let here = (goal.at.bounds-name-at-then-x-eq65 c).Start in
+    let w = at_bits (name here) c.args.at (count_for (get_or (name here) (c.args.at + 1) 0)) c.requires.begins c.if-x-eq65.true refl in
     omega (arith, w.inside)
 
 pub overflow_add-a : goal.overflow_add-a
@@ -77,7 +109,9 @@ pub overflow_add-result-then-x-eq65 : goal.overflow_add-result-then-x-eq65
 overflow_add-result-then-x-eq65 c = omega (arith, (bits_room (goal.at.overflow_add-result-then-x-eq65 c).After-count-n).0)
 
 pub overflow_add-result-then-x-eq65-2 : goal.overflow_add-result-then-x-eq65-2
-overflow_add-result-then-x-eq65-2 c = omega (arith, (bits_put (goal.at.overflow_add-result-then-x-eq65-2 c).After-put_bits-e).0, c.put_bits-e.auto.out)
+overflow_add-result-then-x-eq65-2 c =
+    let here = (goal.at.overflow_add-result-then-x-eq65-2 c).After-put_bits-e in
+    omega (arith, (bits_put here).0, c.put_bits-e.auto.out)
 
 pub returns-then-x-eq65 : goal.returns-then-x-eq65
 returns-then-x-eq65 c = (bits_put (goal.at.returns-then-x-eq65 c).After-put_bits-e).1

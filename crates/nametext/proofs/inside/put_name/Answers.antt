@@ -26,7 +26,8 @@ overflow_add-result c = omega (arith, some (goal.at.overflow_add-result c).Start
 
 pub returns-then-name-eq0 : goal.returns-then-name-eq0
 returns-then-name-eq0 c =
-    put_as _ _ _ _ _ _ (root_text c.args.name.now c.requires.0 c.if-name-eq0.true) (put_one c.args.out.now c.args.to 46 (omega (arith, some (goal.at.returns-then-name-eq0 c).Start)))
+    let here = (goal.at.returns-then-name-eq0 c).Start in
+    put_as _ _ _ _ _ _ (root_text c.args.name.now c.requires.0 c.if-name-eq0.true) (put_one c.args.out.now c.args.to 46 (omega (arith, some here)))
 
 pub loop-at-init : goal.loop-at-init
 loop-at-init c = (writing_start c.args.name.now c.args.out.now c.args.to c.requires.0 c.if-name-eq0.false, refl)
@@ -44,7 +45,11 @@ pub put_label-p-requires : goal.put_label-p-requires
 put_label-p-requires c =
     let a = c.args in
     let l = c.loop-at in
-    let w = l.invariant.0 in record { begins = w.begins; nonzero = (omega (arith, c.if-name-at-eq0.false), writing_room a.name.now a.out.now l.out l.at a.to l.t w c.requires.1) }
+    let w = l.invariant.0 in
+    record {
+      begins = w.begins;
+      nonzero = (omega (arith, c.if-name-at-eq0.false), writing_room a.name.now a.out.now l.out l.at a.to l.t w c.requires.1);
+    }
 
 pub loop-at-smaller : goal.loop-at-smaller
 loop-at-smaller c = omega (arith, left (goal.at.loop-at-smaller c).At-loop-at, c.loop-at.invariant.1, c.put_label-p.ensures.on)

@@ -51,10 +51,11 @@ same-requires c =
 
 pub returns-then-same : goal.returns-then-same
 returns-then-same c =
+    let here = (goal.at.returns-then-same c).After-same in
     let w = c.requires in
     let l = c.loop-next in
     seek_found w.0 w.2 (l.next - 1) (omega arith)
-    (sym (compared (goal.at.returns-then-same c).After-same) ∙ c.if-same.true)
+    (sym (compared here) ∙ c.if-same.true)
 
 pub wide-next-requires-in-loop-next : goal.wide-next-requires-in-loop-next
 wide-next-requires-in-loop-next c = tt
@@ -66,10 +67,11 @@ loop-next-smaller c =
 
 pub loop-next-preserved : goal.loop-next-preserved
 loop-next-preserved c =
+    let here = (goal.at.loop-next-preserved c).After-same in
     let w = c.requires in
     let l = c.loop-next in
     seek_more w.0 w.2 (l.next - 1) l.next c.wide-next-in-loop-next.result
-    l.invariant (omega arith) (sym (compared (goal.at.loop-next-preserved c).After-same) ∙ c.if-same.false) c.wide-next-in-loop-next.ensures
+    l.invariant (omega arith) (sym (compared here) ∙ c.if-same.false) c.wide-next-in-loop-next.ensures
 
 pub returns : goal.returns
 returns c =

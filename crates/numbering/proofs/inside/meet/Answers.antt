@@ -35,8 +35,9 @@ find-number-requires c =
 
 pub returns-then-number-count : goal.returns-then-number-count
 returns-then-number-count c =
+    let here = (goal.at.returns-then-number-count c).After-find-number in
     let a = c.args in
-    meets_known c.requires.0 a.place c.find-number.result (number_is (goal.at.returns-then-number-count c).After-find-number) c.if-number-count.true
+    meets_known c.requires.0 a.place c.find-number.result (number_is here) c.if-number-count.true
 
 pub offset_bounds-head-bucket : goal.offset_bounds-head-bucket
 offset_bounds-head-bucket c = omega (arith, bucket_fits (goal.at.offset_bounds-head-bucket c).After-bucket_of-bucket)
@@ -52,7 +53,9 @@ bounds-head-bucket-2 c = omega (arith, bucket_fits (goal.at.bounds-head-bucket-2
 
 pub returns : goal.returns
 returns c =
+    let find_number = (goal.at.returns c).After-find-number in
+    let bucket_of_bucket = (goal.at.returns c).After-bucket_of-bucket in
     let a = c.args in
     let w = c.requires in
-    let n = number_new_is w.0 a.place c.find-number.result (number_is (goal.at.returns c).After-find-number) c.if-number-count.false in
-    rw (bucket_is (goal.at.returns c).After-bucket_of-bucket) (meets_new w.0 a.place w.2 w.1 n)
+    let n = number_new_is w.0 a.place c.find-number.result (number_is find_number) c.if-number-count.false in
+    rw (bucket_is bucket_of_bucket) (meets_new w.0 a.place w.2 w.1 n)

@@ -24,16 +24,23 @@ loop-i-init c = (c.count-n.ensures, going_none c.requires.in_order.1)
 
 pub meet_owner-first-requires : goal.meet_owner-first-requires
 meet_owner-first-requires c =
+    let at_here = (goal.at.meet_owner-first-requires c).In-loop-i in
     let p = c.requires in
-    let g = c.loop-i.invariant.1 in record { in_order = (p.in_order.0, g.listing); index_bound = (here (goal.at.meet_owner-first-requires c).In-loop-i, omega (arith, few (goal.at.meet_owner-first-requires c).In-loop-i), going_before g (here (goal.at.meet_owner-first-requires c).In-loop-i) p.table_in_bounds.0) }
+    let g = c.loop-i.invariant.1 in
+    record {
+      in_order = (p.in_order.0, g.listing);
+      index_bound = (here at_here, omega (arith, few at_here), going_before g (here at_here) p.table_in_bounds.0);
+    }
 
 pub offset_bounds-own-i : goal.offset_bounds-own-i
 offset_bounds-own-i c = omega (arith, few (goal.at.offset_bounds-own-i c).In-loop-i)
 
 pub meet_target-second-requires : goal.meet_target-second-requires
 meet_target-second-requires c =
+    let at_here = (goal.at.meet_target-second-requires c).In-loop-i in
     let o = c.meet_owner-first in
-    let r : o.result.count < max_names = omega (arith, o.ensures.most, c.loop-i.invariant.1.less, few (goal.at.meet_target-second-requires c).In-loop-i) in record { in_order = (c.requires.in_order.0, o.ensures.listing); index_bound = (here (goal.at.meet_target-second-requires c).In-loop-i, r) }
+    let r : o.result.count < max_names = omega (arith, o.ensures.most, c.loop-i.invariant.1.less, few at_here) in
+    record { in_order = (c.requires.in_order.0, o.ensures.listing); index_bound = (here at_here, r) }
 
 pub offset_bounds-target-i : goal.offset_bounds-target-i
 offset_bounds-target-i c = omega (arith, few (goal.at.offset_bounds-target-i c).In-loop-i)
@@ -44,8 +51,9 @@ bounds-target-i c =
 
 pub loop-i-preserved : goal.loop-i-preserved
 loop-i-preserved c =
+    let at_here = (goal.at.loop-i-preserved c).In-loop-i in
     let l = c.loop-i.invariant in
-    (l.0, going_more l.1 (here (goal.at.loop-i-preserved c).In-loop-i) c.meet_owner-first.ensures c.meet_target-second.ensures)
+    (l.0, going_more l.1 (here at_here) c.meet_owner-first.ensures c.meet_target-second.ensures)
 
 pub returns : goal.returns
 returns c =

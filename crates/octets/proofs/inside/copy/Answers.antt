@@ -14,8 +14,11 @@ loop-i-preserved c =
     let l = c.before.before.loop-i in
     let a = c.before.before.before.args in
     let n = length-drop a.at a.src.now in
-    let g : get_or a.src.now (a.at + l.i) 0 ≡ get_or (drop a.at a.src.now) l.i 0 = sym (get_or-drop a.at a.src.now l.i 0) in
-    (omega arith, simp length-set l.invariant.1, rw (l.invariant.2, g, add-one) (paste-suc a.out.now a.to (drop a.at a.src.now) l.i 0 (omega arith) (omega arith)))
+    let g : get_or a.src.now (a.at + l.i) 0 ≡ get_or (drop a.at a.src.now) l.i 0 = sym (get_or-drop a.at a.src.now l.i 0) in (
+      omega arith,
+      simp length-set l.invariant.1,
+      rw (l.invariant.2, g, add-one) (paste-suc a.out.now a.to (drop a.at a.src.now) l.i 0 (omega arith) (omega arith)),
+    )
 
 pub shape_of-out : goal.shape_of-out
 shape_of-out c = c.before.loop-i.invariant.1

@@ -32,5 +32,8 @@ returns-then-pair-4 c = sym (alike_off _ _ 24 _ _ (omega arith) c.pair-7.ensures
 
 pub returns : goal.returns
 returns c =
-    sym (alike_on c.args.a.now c.args.b.now c.requires.0 c.requires.1 (λ i. (c.shared_slice_known-1.given i).fits) (λ i. (c.shared_slice_known-2-1.given i).fits)
-    (same_1 (goal.at.returns c).Else-pair) (same_2 (goal.at.returns c).Else-pair-2) (same_3 (goal.at.returns c).Else-pair-3) (same_4 (goal.at.returns c).Else-pair-4))
+    let else_pair = (goal.at.returns c).Else-pair in
+    let else_pair_2 = (goal.at.returns c).Else-pair-2 in
+    let else_pair_3 = (goal.at.returns c).Else-pair-3 in
+    let else_pair_4 = (goal.at.returns c).Else-pair-4 in
+    sym (alike_on c.args.a.now c.args.b.now c.requires.0 c.requires.1 (λ i. (c.shared_slice_known-1.given i).fits) (λ i. (c.shared_slice_known-2-1.given i).fits) (same_1 else_pair) (same_2 else_pair_2) (same_3 else_pair_3) (same_4 else_pair_4))

@@ -29,7 +29,8 @@ slice_bounds-same_labels-end-2 c = sym (piece_b c)
 
 pub same_labels-requires : goal.same_labels-requires
 same_labels-requires c =
-    (piece_a (goal.at.same_labels-requires c).After-pieces-k ∙ sym (piece_b (goal.at.same_labels-requires c).After-pieces-k), omega (arith, piece_a (goal.at.same_labels-requires c).After-pieces-k, c.wide.ensures.0, c.pieces-k.ensures.0))
+    let here = (goal.at.same_labels-requires c).After-pieces-k in
+    (piece_a here ∙ sym (piece_b here), omega (arith, piece_a here, c.wide.ensures.0, c.pieces-k.ensures.0))
 
 pub returns : goal.returns
 returns c =

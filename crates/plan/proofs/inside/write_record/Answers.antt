@@ -22,8 +22,9 @@ overflow_add-to-4 c = record { fits = room (goal.at.overflow_add-to-4 c).Start }
 
 pub returns : goal.returns
 returns c =
+    let here = (goal.at.returns c).Start in
     let a = c.args in
     let w = c.requires in
-    record_written a.out.now _ _ _ _ _ a.address a.owner.now a.target.now a.kind a.prefix a.ttl a.to (sixteen (goal.at.returns c).Start) w.0 w.1 w.2
+    record_written a.out.now _ _ _ _ _ a.address a.owner.now a.target.now a.kind a.prefix a.ttl a.to (sixteen here) w.0 w.1 w.2
     c.copy.ensures c.copy-2.ensures c.copy-3.ensures c.copy-4.ensures
     (c.copy-5.ensures ∙ ap (λ (v : List ℕ). paste c.copy-4.new.out (a.to + ttl_place) v ttl_size) c.quarter_octets-life.ensures)

@@ -24,7 +24,10 @@ width s = 8 - s.args.skip % 8
 abbrev more : Start → ℕ
 more s = s.args.n - width s
 
-within : (c : After-low-x) → at c.before.before.before.before.before.before < length c.args.name.now
+abbrev start : After-low-x → Start
+start c = c.before.before.before.before.before.before
+
+within : (c : After-low-x) → at (start c) < length c.args.name.now
 within c = omega (arith, c.requires.n_bound.1, c.if-s-eq0.false)
 
 pub returns-then-s-eq0 : goal.returns-then-s-eq0
@@ -34,26 +37,39 @@ returns-then-s-eq0 c =
 
 pub push-requires : goal.push-requires
 push-requires c =
-    record { ready = c.requires.ready; m_bound = (omega arith, rw c.low-x.ensures (field_small (octet (goal.at.push-requires c).Start) (width (goal.at.push-requires c).Start) c.args.n c.if-n-m.true)) }
+    let here = (goal.at.push-requires c).Start in
+    record { ready = c.requires.ready; m_bound = (omega arith, rw c.low-x.ensures (field_small (octet here) (width here) c.args.n c.if-n-m.true)) }
 
 pub returns-then-n-m : goal.returns-then-n-m
 returns-then-n-m c =
+    let here = (goal.at.returns-then-n-m c).After-low-x in
     let a = c.args in
-    short_pushed a.name.now a.a a.skip a.n c.low-x.result c.low-x.ensures (within (goal.at.returns-then-n-m c).After-low-x) (omega (arith, c.if-n-m.true)) c.push.ensures
+    short_pushed a.name.now a.a a.skip a.n c.low-x.result c.low-x.ensures (within here) (omega (arith, c.if-n-m.true)) c.push.ensures
 
 pub push-q-requires : goal.push-q-requires
 push-q-requires c =
-    let r = ready_less c.args.out.now c.args.p (width (goal.at.push-q-requires c).Start) c.args.n (omega (arith, c.if-n-m.false)) c.requires.ready in record { ready = r; m_bound = (omega arith, rw c.low-x.ensures (mod-lt (octet (goal.at.push-q-requires c).Start) (pow_pos (width (goal.at.push-q-requires c).Start)))) }
+    let here = (goal.at.push-q-requires c).Start in
+    let r = ready_less c.args.out.now c.args.p (width here) c.args.n (omega (arith, c.if-n-m.false)) c.requires.ready in
+    record {
+      ready = r;
+      m_bound = (omega arith, rw c.low-x.ensures (mod-lt (octet here) (pow_pos (width here))));
+    }
 
 pub append-requires-2 : goal.append-requires-2
 append-requires-2 c =
+    let here = (goal.at.append-requires-2 c).Start in
     let x = c.low-x.result in
     let h = c.if-n-m.false in
-    let bs = bits_of (width (goal.at.append-requires-2 c).Start) x in
-    let l = bits_length (width (goal.at.append-requires-2 c).Start) x in
-    let r = ready_less c.args.out.now c.args.p (length bs + more (goal.at.append-requires-2 c).Start) c.args.n (omega (arith, h)) c.requires.ready in record { ready = ready_after c.args.out.now _ c.args.p c.push-q.result bs (more (goal.at.append-requires-2 c).Start) c.push-q.ensures c.push-q.auto.out r; n_bound = (omega (arith, c.requires.n_bound.0), omega (arith, c.requires.n_bound.1, h)) }
+    let bs = bits_of (width here) x in
+    let l = bits_length (width here) x in
+    let r = ready_less c.args.out.now c.args.p (length bs + more here) c.args.n (omega (arith, h)) c.requires.ready in
+    record {
+      ready = ready_after c.args.out.now _ c.args.p c.push-q.result bs (more here) c.push-q.ensures c.push-q.auto.out r;
+      n_bound = (omega (arith, c.requires.n_bound.0), omega (arith, c.requires.n_bound.1, h));
+    }
 
 pub returns : goal.returns
 returns c =
+    let here = (goal.at.returns c).After-low-x in
     let a = c.args in
-    long_pushed a.name.now a.a a.skip a.n c.low-x.result c.low-x.ensures (within (goal.at.returns c).After-low-x) (omega (arith, c.if-n-m.false)) c.push-q.ensures c.append-2.ensures
+    long_pushed a.name.now a.a a.skip a.n c.low-x.result c.low-x.ensures (within here) (omega (arith, c.if-n-m.false)) c.push-q.ensures c.append-2.ensures

@@ -24,7 +24,10 @@ name_units c = c.unit_count-n.result
 abbrev owner_units : After-unit_count-m → ℕ
 owner_units c = c.unit_count-m.result
 
-met : (c : After-find-s) → Meeting (name record { before = c.before.before.before; type_inv = record { owner = c.shared_slice_known-2-1.given; name = c.shared_slice_known-1.given } }) (owner record { before = c.before.before.before; type_inv = record { owner = c.shared_slice_known-2-1.given; name = c.shared_slice_known-1.given } }) (name_units record { before = c.before.before.before; type_inv = record { owner = c.shared_slice_known-2-1.given; name = c.shared_slice_known-1.given } }) (owner_units record { before = c.before.before.before; type_inv = record { owner = c.shared_slice_known-2-1.given; name = c.shared_slice_known-1.given } }) c.find-s.result
+abbrev unit_count_m : After-find-s → After-unit_count-m
+unit_count_m c = record { before = c.before.before.before; type_inv = record { owner = c.shared_slice_known-2-1.given; name = c.shared_slice_known-1.given } }
+
+met : (c : After-find-s) → Meeting (name (unit_count_m c)) (owner (unit_count_m c)) (name_units (unit_count_m c)) (owner_units (unit_count_m c)) c.find-s.result
 met c =
     record {
       found = c.find-s.ensures;
@@ -33,16 +36,24 @@ met c =
       counts = (c.unit_count-n.ensures, c.unit_count-m.ensures, omega (arith, c.if-n-m.false));
     }
 
-inside : (c : After-leading-f)
-    → Inside (name record { before = c.before.before.before.before.before; type_inv = record { owner = c.shared_slice_known-2-1.given; name = c.shared_slice_known-1.given } }) (owner record { before = c.before.before.before.before.before; type_inv = record { owner = c.shared_slice_known-2-1.given; name = c.shared_slice_known-1.given } }) (name_units record { before = c.before.before.before.before.before; type_inv = record { owner = c.shared_slice_known-2-1.given; name = c.shared_slice_known-1.given } }) (owner_units record { before = c.before.before.before.before.before; type_inv = record { owner = c.shared_slice_known-2-1.given; name = c.shared_slice_known-1.given } }) c.find-s.result c.leading-f.result
-inside c = record { met = met record { before = c.before.before.before; type_inv = record { owner = c.shared_slice_known-2-1.given; name = c.shared_slice_known-1.given } }; fronted = c.leading-f.ensures; inner = c.if-left-units.false }
+abbrev unit_count_m_of_leading_f : After-leading-f → After-unit_count-m
+unit_count_m_of_leading_f c = record { before = c.before.before.before.before.before; type_inv = record { owner = c.shared_slice_known-2-1.given; name = c.shared_slice_known-1.given } }
 
-owner_rest : (c : After-leading-f) → c.leading-f.result.end < length (owner record { before = c.before.before.before.before.before; type_inv = record { owner = c.shared_slice_known-2-1.given; name = c.shared_slice_known-1.given } })
-owner_rest c = begins_inside (owner record { before = c.before.before.before.before.before; type_inv = record { owner = c.shared_slice_known-2-1.given; name = c.shared_slice_known-1.given } }) c.leading-f.result.end c.leading-f.ensures.begins
+abbrev find_s : After-leading-f → After-find-s
+find_s c = record { before = c.before.before.before; type_inv = record { owner = c.shared_slice_known-2-1.given; name = c.shared_slice_known-1.given } }
+
+inside : (c : After-leading-f)
+    → Inside (name (unit_count_m_of_leading_f c)) (owner (unit_count_m_of_leading_f c)) (name_units (unit_count_m_of_leading_f c)) (owner_units (unit_count_m_of_leading_f c)) c.find-s.result c.leading-f.result
+inside c =
+    record { met = met (find_s c); fronted = c.leading-f.ensures; inner = c.if-left-units.false }
+
+owner_rest : (c : After-leading-f) → c.leading-f.result.end < length (owner (unit_count_m_of_leading_f c))
+owner_rest c = begins_inside (owner (unit_count_m_of_leading_f c)) c.leading-f.result.end c.leading-f.ensures.begins
 
 pub returns-then-n-m : goal.returns-then-n-m
 returns-then-n-m c =
-    sym (below_few (units_at (owner (goal.at.returns-then-n-m c).After-unit_count-m) 0) (units_at (name (goal.at.returns-then-n-m c).After-unit_count-m) 0) (omega (arith, c.unit_count-n.ensures, c.unit_count-m.ensures, c.if-n-m.true)))
+    let here = (goal.at.returns-then-n-m c).After-unit_count-m in
+    sym (below_few (units_at (owner here) 0) (units_at (name here) 0) (omega (arith, c.unit_count-n.ensures, c.unit_count-m.ensures, c.if-n-m.true)))
 
 pub slice_bounds-same_key-count : goal.slice_bounds-same_key-count
 slice_bounds-same_key-count c = let w = met_within (met (goal.at.slice_bounds-same_key-count c).After-find-s) in omega arith
@@ -51,13 +62,17 @@ pub slice_bounds-same_key-start : goal.slice_bounds-same_key-start
 slice_bounds-same_key-start c = let w = met_within (met (goal.at.slice_bounds-same_key-start c).After-find-s) in omega arith
 
 pub returns-then-same_key : goal.returns-then-same_key
-returns-then-same_key c = edge_kept (met (goal.at.returns-then-same_key c).After-find-s) c.if-left-units.true (sym c.same_key.ensures ∙ c.if-same_key.true)
+returns-then-same_key c =
+    edge_kept (met (goal.at.returns-then-same_key c).After-find-s) c.if-left-units.true (sym c.same_key.ensures ∙ c.if-same_key.true)
 
 pub returns-then-left-units : goal.returns-then-left-units
-returns-then-left-units c = edge_none (met (goal.at.returns-then-left-units c).After-find-s) c.if-left-units.true (sym c.same_key.ensures ∙ c.if-same_key.false)
+returns-then-left-units c =
+    edge_none (met (goal.at.returns-then-left-units c).After-find-s) c.if-left-units.true (sym c.same_key.ensures ∙ c.if-same_key.false)
 
 pub overflow_add-left-3 : goal.overflow_add-left-3
-overflow_add-left-3 c = let f = (met (goal.at.overflow_add-left-3 c).After-find-s).found in omega (arith, c.leading-f.ensures.few, f.within, f.turned.few, met_within (met (goal.at.overflow_add-left-3 c).After-find-s))
+overflow_add-left-3 c =
+    let here = (goal.at.overflow_add-left-3 c).After-find-s in
+    let f = (met here).found in omega (arith, c.leading-f.ensures.few, f.within, f.turned.few, met_within (met here))
 
 pub returns-then-left-bits : goal.returns-then-left-bits
 returns-then-left-bits c = inside_count (inside (goal.at.returns-then-left-bits c).After-leading-f) c.if-left-bits.true
@@ -67,14 +82,16 @@ overflow_add-at c = let w = met_within (met (goal.at.overflow_add-at c).After-fi
 
 pub same_bits-requires : goal.same_bits-requires
 same_bits-requires c =
-    let b = bits_within (inside (goal.at.same_bits-requires c).After-leading-f) in
+    let here = (goal.at.same_bits-requires c).After-leading-f in
+    let b = bits_within (inside here) in
     let w = c.leading-f.ensures in
     (omega (arith, c.if-left-bits.false), w.inside, w.few)
 
 pub returns-then-not-same_bits : goal.returns-then-not-same_bits
 returns-then-not-same_bits c =
+    let here = (goal.at.returns-then-not-same_bits c).After-leading-f in
     let s = c.same_bits in
-    inside_bits (inside (goal.at.returns-then-not-same_bits c).After-leading-f) c.if-left-bits.false (sym s.ensures ∙ c.if-not-same_bits.true)
+    inside_bits (inside here) c.if-left-bits.false (sym s.ensures ∙ c.if-not-same_bits.true)
 
 pub slice_bounds-same_key-count-2 : goal.slice_bounds-same_key-count-2
 slice_bounds-same_key-count-2 c = let w = met_within (met (goal.at.slice_bounds-same_key-count-2 c).After-find-s) in omega arith
@@ -90,8 +107,9 @@ slice_bounds-same_key-start-3 c = omega (arith, owner_rest (goal.at.slice_bounds
 
 pub returns-then-same_key-2 : goal.returns-then-same_key-2
 returns-then-same_key-2 c =
+    let here = (goal.at.returns-then-same_key-2 c).After-leading-f in
     let s = c.same_bits in
-    inside_kept (inside (goal.at.returns-then-same_key-2 c).After-leading-f) c.if-left-bits.false (sym s.ensures ∙ c.if-not-same_bits.false) (sym c.same_key-2.ensures ∙ c.if-same_key-2.true)
+    inside_kept (inside here) c.if-left-bits.false (sym s.ensures ∙ c.if-not-same_bits.false) (sym c.same_key-2.ensures ∙ c.if-same_key-2.true)
 
 pub returns : goal.returns
 returns c = inside_rest (inside (goal.at.returns c).After-leading-f) c.if-left-bits.false (sym c.same_key-2.ensures ∙ c.if-same_key-2.false)

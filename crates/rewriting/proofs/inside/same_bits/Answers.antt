@@ -24,8 +24,9 @@ bounds-b-y c = there c.loop-left.invariant (omega (arith, full (goal.at.bounds-b
 
 pub returns-then-a-x : goal.returns-then-a-x
 returns-then-a-x c =
+    let at_here = (goal.at.returns-then-a-x c).In-loop-left in
     let l = c.loop-left in
-    comparing_off l.invariant (full (goal.at.returns-then-a-x c).In-loop-left) (omega (arith, c.shared_slice_known-1.given l.x)) (omega (arith, c.shared_slice_known-in-loop-left-1.given l.y)) c.if-a-x.true
+    comparing_off l.invariant (full at_here) (omega (arith, c.shared_slice_known-1.given l.x)) (omega (arith, c.shared_slice_known-in-loop-left-1.given l.y)) c.if-a-x.true
 
 pub overflow_add-x : goal.overflow_add-x
 overflow_add-x c = omega (arith, c.loop-left.invariant.first, full (goal.at.overflow_add-x c).In-loop-left)
@@ -56,5 +57,6 @@ overflow_shr-result-2 c = omega (arith, some (goal.at.overflow_shr-result-2 c).E
 
 pub returns : goal.returns
 returns c =
+    let at_here = (goal.at.returns c).Else-left-eq0 in
     let l = c.loop-left in
-    comparing_last l.invariant (some (goal.at.returns c).Else-left-eq0) (omega arith) (omega (arith, c.shared_slice_known-2-1.given l.x)) (omega (arith, c.shared_slice_known-3-1.given l.y))
+    comparing_last l.invariant (some at_here) (omega arith) (omega (arith, c.shared_slice_known-2-1.given l.x)) (omega (arith, c.shared_slice_known-3-1.given l.y))

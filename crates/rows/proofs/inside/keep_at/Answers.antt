@@ -21,21 +21,22 @@ returns-then-is_at c =
 
 pub returns-then-end-out : goal.returns-then-end-out
 returns-then-end-out c =
+    let here = (goal.at.returns-then-end-out c).Joined-k-count in
     let a = c.args in
     let p = c.requires in
     let g = get_or-set_same a.figures.now 0 (get_or a.figures.now 0 0 + 1) 0 (omega arith) in (
-      kept_new (address_of a.high a.low) a.ttl a.out.now a.lives.now a.figures.now p.figures_len.0 a.k (absent (goal.at.returns-then-end-out c).Joined-k-count) p.k_bound.1 c.if-end-out.true c.put.new.out
-          c.put_life.new.lives c.put.ensures c.put_life.ensures,
+      kept_new (address_of a.high a.low) a.ttl a.out.now a.lives.now a.figures.now p.figures_len.0 a.k (absent here) p.k_bound.1 c.if-end-out.true c.put.new.out c.put_life.new.lives c.put.ensures c.put_life.ensures,
       length-set a.figures.now 0 (get_or a.figures.now 0 0 + 1) ∙ p.figures_len.0,
       omega (arith, g, c.if-end-out.true),
     )
 
 pub returns : goal.returns
 returns c =
+    let here = (goal.at.returns c).Joined-k-count in
     let a = c.args in
     let p = c.requires in
     let g = get_or-set_other a.figures.now 1 0 1 0 (λ z. omega arith) in (
-      kept_over (address_of a.high a.low) a.ttl a.out.now a.lives.now a.figures.now p.figures_len.0 a.k (absent (goal.at.returns c).Joined-k-count) (omega (arith, c.if-end-out.false)),
+      kept_over (address_of a.high a.low) a.ttl a.out.now a.lives.now a.figures.now p.figures_len.0 a.k (absent here) (omega (arith, c.if-end-out.false)),
       length-set a.figures.now 1 1 ∙ p.figures_len.0,
       omega (arith, g, p.figures_len.1),
     )

@@ -39,11 +39,13 @@ search-loop-i-init t c =
 
 pub search-returns-then-s-eq0 : goal.search-returns-then-s-eq0
 search-returns-then-s-eq0 t c =
-    going_over (asked t (goal.at.search-returns-then-s-eq0 t c).Start) c.requires.fit c.loop-i.invariant c.loop-i-test.true c.if-s-eq0.true
+    let here = (goal.at.search-returns-then-s-eq0 t c).Start in
+    going_over (asked t here) c.requires.fit c.loop-i.invariant c.loop-i-test.true c.if-s-eq0.true
 
 pub search-step-s-requires : goal.search-step-s-requires
 search-step-s-requires t c =
-    let q = asked t (goal.at.search-step-s-requires t c).Start in
+    let here = (goal.at.search-step-s-requires t c).Start in
+    let q = asked t here in
     let e = same_unused q c.requires.fit c.loop-i.invariant c.loop-i-test.true in (
       omega (arith, c.decreases, ap free e),
       going_ready q c.requires.fit c.loop-i.invariant c.loop-i-test.true (address_length c.args.high c.args.low)
@@ -52,8 +54,9 @@ search-step-s-requires t c =
 
 pub search-loop-i-smaller : goal.search-loop-i-smaller
 search-loop-i-smaller t c =
+    let here = (goal.at.search-loop-i-smaller t c).Start in
     let l = c.loop-i in
-    let q = asked t (goal.at.search-loop-i-smaller t c).Start in
+    let q = asked t here in
     let e : c.if-length_in-bound.next ≡ l.next = elim c.if-length_in-bound.branch [
       | search-then-length_in-bound w ↦ ◌∙◌ {c = c.loop-i.next} w.next-is w.step-s.ensures.next
       | search-else-length_in-bound w ↦ w.next-is
@@ -63,8 +66,9 @@ search-loop-i-smaller t c =
 
 pub search-loop-i-preserved : goal.search-loop-i-preserved
 search-loop-i-preserved t c =
+    let here = (goal.at.search-loop-i-preserved t c).Start in
     let l = c.loop-i in
-    let s = (goal.at.search-loop-i-preserved t c).Start in
+    let s = here in
     let q = asked t s in
     let a = c.args in
     let h = memory l.next l.prev l.out l.lives l.figures l.s in
@@ -173,6 +177,7 @@ been t c =
 
 pub step-returns : goal.step-returns
 step-returns t c =
-    let b = (goal.at.step-returns t c).Joined-first-owners in
+    let here = (goal.at.step-returns t c).Joined-first-owners in
+    let b = here in
     done_unfinished (given t b) (taken t b) (bits' t b) c.args.ttl (left_here t b) (been t b) (unfinished t b)
     c.relink.new.next c.relink.new.prev c.relink.ensures.0 c.relink.ensures.1

@@ -43,8 +43,7 @@ ran c =
     let p = c.requires in
     let a = c.args in
     let l = c.link in
-    state_first (given c) p.numbered.0 l.new.next l.new.prev a.out.now a.lives.now a.limit l.ensures p.out_len.0 p.out_len.1 p.out_len.2 p.out_len.3 a.x (after c)
-    c.search-left.ensures
+    state_first (given c) p.numbered.0 l.new.next l.new.prev a.out.now a.lives.now a.limit l.ensures p.out_len.0 p.out_len.1 p.out_len.2 p.out_len.3 a.x (after c) c.search-left.ensures
 
 -- the search keeps the lengths of both lists
 out_kept : (c : After-search-left) → length (after c).out ≡ length c.args.out.now
@@ -79,14 +78,16 @@ search-left-requires c =
 -- the number that is due: 6 where no chain is left to count, 7 where there was no room
 pub returns-then-left-eq0 : goal.returns-then-left-eq0
 returns-then-left-eq0 c =
-    let s = (goal.at.returns-then-left-eq0 c).After-search-left in
+    let here = (goal.at.returns-then-left-eq0 c).After-search-left in
+    let s = here in
     let z : c.search-left.result ≡ 0 = omega arith in
     let y = refused s 5 (found_over (graph s) (sound s) c.args.x c.args.limit (room s) _ (ran s) z) in
     record { value = cc (y.0); out_after = cc (y.1); lives_after = cc (y.2) }
 
 pub returns-then-full-eq1 : goal.returns-then-full-eq1
 returns-then-full-eq1 c =
-    let s = (goal.at.returns-then-full-eq1 c).After-search-left in
+    let here = (goal.at.returns-then-full-eq1 c).After-search-left in
+    let s = here in
     let w : 0 < c.search-left.result = omega arith in
     let e : get_or c.search-left.new.figures 1 0 ≡ 1 = omega arith in
     let y = refused s 6 (found_full (graph s) (sound s) c.args.x c.args.limit (room s) _ (ran s) w (eq-eqb _ 1 e)) in
@@ -95,19 +96,22 @@ returns-then-full-eq1 c =
 -- neither: chains are left to count, and there was room
 pub overflow_cast-found : goal.overflow_cast-found
 overflow_cast-found c =
-    let s = (goal.at.overflow_cast-found c).After-search-left in
+    let here = (goal.at.overflow_cast-found c).After-search-left in
+    let s = here in
     let w : 0 < c.search-left.result = omega arith in
     let e : get_or c.search-left.new.figures 1 0 ≢ 1 = omega arith in
     omega (arith, found_few (graph s) (sound s) c.args.x c.args.limit (room s) _ (ran s) w (ne_eqb _ 1 e))
 
 pub overflow_sub-spent : goal.overflow_sub-spent
 overflow_sub-spent c =
-    let s = (goal.at.overflow_sub-spent c).After-search-left in
+    let here = (goal.at.overflow_sub-spent c).After-search-left in
+    let s = here in
     found_left (graph s) (sound s) c.args.x c.args.limit (room s) _ (ran s) (omega arith)
 
 pub returns : goal.returns
 returns c =
-    let s = (goal.at.returns c).After-search-left in
+    let here = (goal.at.returns c).After-search-left in
+    let s = here in
     let r = ran s in
     let w : 0 < c.search-left.result = omega arith in
     let e : get_or c.search-left.new.figures 1 0 ≢ 1 = omega arith in

@@ -12,7 +12,8 @@ before c = kept c.args.out.now c.args.lives.now c.args.figures.now
 
 pub returns-then-is_full : goal.returns-then-is_full
 returns-then-is_full c =
-    (keep_full _ _ (before (goal.at.returns-then-is_full c).Start) (sym c.is_full.ensures ∙ c.if-is_full.true), c.requires.figures_len.0, c.requires.figures_len.1)
+    let here = (goal.at.returns-then-is_full c).Start in
+    (keep_full _ _ (before here) (sym c.is_full.ensures ∙ c.if-is_full.true), c.requires.figures_len.0, c.requires.figures_len.1)
 
 pub keep-requires : goal.keep-requires
 keep-requires c =
@@ -21,6 +22,7 @@ keep-requires c =
 
 pub returns : goal.returns
 returns c =
+    let here = (goal.at.returns c).Start in
     let k = c.keep.ensures in
     let t = c.lesser-t.ensures ∙ ap (min c.args.ttl) c.ttl_in.ensures in
-    (k.0 ∙ (λ z. keep_in (c.joined-a.ensures z) (t z) (before (goal.at.returns c).Start)), k.1, k.2)
+    (k.0 ∙ (λ z. keep_in (c.joined-a.ensures z) (t z) (before here)), k.1, k.2)

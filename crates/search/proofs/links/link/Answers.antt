@@ -49,8 +49,10 @@ alone-requires-2 c = c.requires.next_len.1
 pub loop-i-init : goal.loop-i-init
 loop-i-init c =
     let p = c.requires in
-    let k = c.alone.ensures in
-    (_, chained_none c.args.owners.now _ _ max_nodes (λ j l. omega (arith, p.owned.owner j l, p.owned.few)) k.0 c.alone-2.ensures.0 k.1 c.alone-2.ensures.1)
+    let k = c.alone.ensures in (
+      _,
+      chained_none c.args.owners.now _ _ max_nodes (λ j l. omega (arith, p.owned.owner j l, p.owned.few)) k.0 c.alone-2.ensures.0 k.1 c.alone-2.ensures.1,
+    )
 
 pub overflow_add-ends : goal.overflow_add-ends
 overflow_add-ends c = omega (arith, node_fits c)
@@ -59,7 +61,10 @@ pub offset_bounds-prev-ends : goal.offset_bounds-prev-ends
 offset_bounds-prev-ends c = omega (arith, node_fits c)
 
 pub bounds-prev-ends : goal.bounds-prev-ends
-bounds-prev-ends c = omega (arith, node_fits (goal.at.bounds-prev-ends c).After-wide, (sizes (goal.at.bounds-prev-ends c).In-loop-i).prev)
+bounds-prev-ends c =
+    let wide = (goal.at.bounds-prev-ends c).After-wide in
+    let in_loop_i = (goal.at.bounds-prev-ends c).In-loop-i in
+    omega (arith, node_fits wide, (sizes in_loop_i).prev)
 
 pub overflow_cast-node : goal.overflow_cast-node
 overflow_cast-node c = omega (arith, (sizes (goal.at.overflow_cast-node c).In-loop-i).index)
@@ -68,7 +73,10 @@ pub offset_bounds-next-before : goal.offset_bounds-next-before
 offset_bounds-next-before c = omega (arith, last_within c)
 
 pub bounds-next-before : goal.bounds-next-before
-bounds-next-before c = omega (arith, (sizes (goal.at.bounds-next-before c).In-loop-i).next, last_within (goal.at.bounds-next-before c).After-wide-before)
+bounds-next-before c =
+    let in_loop_i = (goal.at.bounds-next-before c).In-loop-i in
+    let wide_before = (goal.at.bounds-next-before c).After-wide-before in
+    omega (arith, (sizes in_loop_i).next, last_within wide_before)
 
 pub overflow_cast-next : goal.overflow_cast-next
 overflow_cast-next c = omega (arith, node_fits (goal.at.overflow_cast-next c).After-wide)
@@ -77,28 +85,35 @@ pub offset_bounds-next-i : goal.offset_bounds-next-i
 offset_bounds-next-i c = omega (arith, (sizes (goal.at.offset_bounds-next-i c).In-loop-i).index)
 
 pub bounds-next-i : goal.bounds-next-i
-bounds-next-i c = omega (arith, (sizes (goal.at.bounds-next-i c).In-loop-i).next, (sizes (goal.at.bounds-next-i c).In-loop-i).index)
+bounds-next-i c =
+    let here = (goal.at.bounds-next-i c).In-loop-i in
+    omega (arith, (sizes here).next, (sizes here).index)
 
 pub offset_bounds-prev-ends-in-loop-i : goal.offset_bounds-prev-ends-in-loop-i
 offset_bounds-prev-ends-in-loop-i c = omega (arith, node_fits (goal.at.offset_bounds-prev-ends-in-loop-i c).After-wide)
 
 pub bounds-prev-ends-in-loop-i : goal.bounds-prev-ends-in-loop-i
-bounds-prev-ends-in-loop-i c = omega (arith, (sizes (goal.at.bounds-prev-ends-in-loop-i c).In-loop-i).prev, node_fits (goal.at.bounds-prev-ends-in-loop-i c).After-wide)
+bounds-prev-ends-in-loop-i c =
+    let in_loop_i = (goal.at.bounds-prev-ends-in-loop-i c).In-loop-i in
+    let wide = (goal.at.bounds-prev-ends-in-loop-i c).After-wide in
+    omega (arith, (sizes in_loop_i).prev, node_fits wide)
 
 pub offset_bounds-prev-i : goal.offset_bounds-prev-i
 offset_bounds-prev-i c = omega (arith, (sizes (goal.at.offset_bounds-prev-i c).In-loop-i).index)
 
 pub bounds-prev-i : goal.bounds-prev-i
-bounds-prev-i c = omega (arith, (sizes (goal.at.bounds-prev-i c).In-loop-i).prev, (sizes (goal.at.bounds-prev-i c).In-loop-i).index)
+bounds-prev-i c =
+    let here = (goal.at.bounds-prev-i c).In-loop-i in
+    omega (arith, (sizes here).prev, (sizes here).index)
 
 pub loop-i-preserved : goal.loop-i-preserved
 loop-i-preserved c =
+    let here = (goal.at.loop-i-preserved c).After-wide-before in
     let l = c.loop-i in
     let o = c.args.owners.now in
     let k = length o + c.wide.result in (
       _,
-      chained_as o l.invariant.0 l.next l.prev max_nodes l.i l.invariant.1 c.loop-i-test.true c.wide-before.result k k (get_or l.prev k 0) (last_is (goal.at.loop-i-preserved c).After-wide-before) (ends_is (goal.at.loop-i-preserved c).After-wide-before) refl
-          (ap (λ (v : ℕ). get_or l.prev v 0) (ends_is (goal.at.loop-i-preserved c).After-wide-before)),
+      chained_as o l.invariant.0 l.next l.prev max_nodes l.i l.invariant.1 c.loop-i-test.true c.wide-before.result k k (get_or l.prev k 0) (last_is here) (ends_is here) refl (ap (λ (v : ℕ). get_or l.prev v 0) (ends_is here)),
     )
 
 pub returns : goal.returns

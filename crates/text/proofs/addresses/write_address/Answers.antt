@@ -30,11 +30,17 @@ put_address-n-requires c = omega (arith, few c)
 
 pub give-requires : goal.give-requires
 give-requires c =
+    let here = (goal.at.give-requires c).After-text-1 in
     let p = c.put_address-n.ensures in
-    (omega (arith, few (goal.at.give-requires c).After-text-1, p.0), omega (arith, few (goal.at.give-requires c).After-text-1, p.0))
+    (omega (arith, few here, p.0), omega (arith, few here, p.0))
 
 pub returns : goal.returns
 returns c =
+    let here = (goal.at.returns c).After-text-1 in
     let room = length c.args.out.now in
     let g = c.give in
-    let f = put_front _ _ _ (write_address (address (goal.at.returns c).After-text-1)) c.put_address-n.ensures in record { value = g.ensures.value ∙ ap (λ (t : List ℕ). text_answer t room) f; out_after = g.ensures.out_after ∙ ap (λ (t : List ℕ). text_out t room) f }
+    let f = put_front _ _ _ (write_address (address here)) c.put_address-n.ensures in
+    record {
+      value = g.ensures.value ∙ ap (λ (t : List ℕ). text_answer t room) f;
+      out_after = g.ensures.out_after ∙ ap (λ (t : List ℕ). text_out t room) f;
+    }

@@ -35,19 +35,27 @@ write_groups-requires c = omega (arith, ap length (full (goal.at.write_groups-re
 
 pub returns-then-n-lt2 : goal.returns-then-n-lt2
 returns-then-n-lt2 c =
+    let here = (goal.at.returns-then-n-lt2 c).After-longest_run-run in
     let w = c.write_groups in
-    put_as c.args.out.now w.new.out c.args.at w.result (groups_text (groups (goal.at.returns-then-n-lt2 c).After-longest_run-run)) (write_address (address (goal.at.returns-then-n-lt2 c).After-longest_run-run)) (full (goal.at.returns-then-n-lt2 c).After-longest_run-run (omega arith)) w.ensures
+    put_as c.args.out.now w.new.out c.args.at w.result (groups_text (groups here)) (write_address (address here)) (full here (omega arith)) w.ensures
 
 pub overflow_add-before : goal.overflow_add-before
 overflow_add-before c =
-    let n : length (groups (goal.at.overflow_add-before c).After-longest_run-run) ≡ 8 = search rules in
-    omega (arith, (short (goal.at.overflow_add-before c).After-longest_run-run (omega arith)).0)
+    let here = (goal.at.overflow_add-before c).After-longest_run-run in
+    let n : length (groups here) ≡ 8 = search rules in
+    omega (arith, (short here (omega arith)).0)
 
 pub write_sides-requires : goal.write_sides-requires
 write_sides-requires c =
-    let s = short (goal.at.write_sides-requires c).After-longest_run-run (omega arith) in record { before_in_bounds = (omega (arith, s.0), s.0); groups_in_bounds = omega (arith, ap length s.1, c.requires) }
+    let here = (goal.at.write_sides-requires c).After-longest_run-run in
+    let s = short here (omega arith) in
+    record {
+      before_in_bounds = (omega (arith, s.0), s.0);
+      groups_in_bounds = omega (arith, ap length s.1, c.requires);
+    }
 
 pub returns : goal.returns
 returns c =
+    let here = (goal.at.returns c).After-longest_run-run in
     let w = c.write_sides in
-    put_as c.args.out.now w.new.out c.args.at w.result (sides (goal.at.returns c).After-longest_run-run) (write_address (address (goal.at.returns c).After-longest_run-run)) (short (goal.at.returns c).After-longest_run-run (omega arith)).1 w.ensures
+    put_as c.args.out.now w.new.out c.args.at w.result (sides here) (write_address (address here)) (short here (omega arith)).1 w.ensures

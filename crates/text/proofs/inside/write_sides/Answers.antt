@@ -47,30 +47,32 @@ overflow_add-out c = omega (arith, room (goal.at.overflow_add-out c).After-write
 
 pub bounds-out-gap-2 : goal.bounds-out-gap-2
 bounds-out-gap-2 c =
-    let s = length-set (out (goal.at.bounds-out-gap-2 c).After-write_groups-gap) (end (goal.at.bounds-out-gap-2 c).After-write_groups-gap) 58 in
-    omega (arith, room (goal.at.bounds-out-gap-2 c).After-write_groups-gap)
+    let here = (goal.at.bounds-out-gap-2 c).After-write_groups-gap in
+    let s = length-set (out here) (end here) 58 in
+    omega (arith, room here)
 
 pub overflow_add-gap : goal.overflow_add-gap
 overflow_add-gap c = omega (arith, room (goal.at.overflow_add-gap c).After-write_groups-gap)
 
 pub write_groups-requires : goal.write_groups-requires
 write_groups-requires c =
+    let here = (goal.at.write_groups-requires c).After-write_groups-gap in
     let r = rest_whole c.args.groups.now c.args.after in
-    simp (r, length-set) (omega (arith, room (goal.at.write_groups-requires c).After-write_groups-gap))
+    simp (r, length-set) (omega (arith, room here))
 
 pub returns : goal.returns
 returns c =
+    let here = (goal.at.returns c).After-write_groups-gap in
     let w = c.write_groups-gap in
     let v = c.write_groups in
     let a = c.args in
     let g = a.groups.now in
-    let h = room (goal.at.returns c).After-write_groups-gap in
-    let m = set (set (out (goal.at.returns c).After-write_groups-gap) (end (goal.at.returns c).After-write_groups-gap) 58) (end (goal.at.returns c).After-write_groups-gap + 1) 58 in
-    let two : end (goal.at.returns c).After-write_groups-gap + 1 + 1 ≡ end (goal.at.returns c).After-write_groups-gap + 2 = omega arith in
-    let colons : Put (out (goal.at.returns c).After-write_groups-gap) m (end (goal.at.returns c).After-write_groups-gap) (end (goal.at.returns c).After-write_groups-gap + 2) (58 ∷ 58 ∷ []) = rw two at (put_two (out (goal.at.returns c).After-write_groups-gap) (end (goal.at.returns c).After-write_groups-gap) 58 58 (omega arith)) in
-    let l = length-append (front (goal.at.returns c).After-write_groups-gap) (58 ∷ 58 ∷ []) in
+    let h = room here in
+    let m = set (set (out here) (end here) 58) (end here + 1) 58 in
+    let two : end here + 1 + 1 ≡ end here + 2 = omega arith in
+    let colons : Put (out here) m (end here) (end here + 2) (58 ∷ 58 ∷ []) = rw two at (put_two (out here) (end here) 58 58 (omega arith)) in
+    let l = length-append (front here) (58 ∷ 58 ∷ []) in
     let o = w.auto.out in
-    let left : Put a.out.now m a.at (end (goal.at.returns c).After-write_groups-gap + 2) (front (goal.at.returns c).After-write_groups-gap ++ (58 ∷ 58 ∷ [])) = put_then a.out.now (out (goal.at.returns c).After-write_groups-gap) m a.at (end (goal.at.returns c).After-write_groups-gap) (end (goal.at.returns c).After-write_groups-gap + 2) (front (goal.at.returns c).After-write_groups-gap) (58 ∷ 58 ∷ []) (omega (arith, w.ensures.0)) w.ensures colons in
-    let right : Put m v.new.out (end (goal.at.returns c).After-write_groups-gap + 2) v.result (back (goal.at.returns c).After-write_groups-gap) = put_as m v.new.out (end (goal.at.returns c).After-write_groups-gap + 2) v.result (groups_text (take (length g - a.after) (drop a.after g))) (back (goal.at.returns c).After-write_groups-gap) (ap groups_text (rest_whole g a.after)) v.ensures in
-    put_as a.out.now v.new.out a.at v.result ((front (goal.at.returns c).After-write_groups-gap ++ (58 ∷ 58 ∷ [])) ++ back (goal.at.returns c).After-write_groups-gap) (front (goal.at.returns c).After-write_groups-gap ++ (58 ∷ 58 ∷ back (goal.at.returns c).After-write_groups-gap)) (append_assoc (front (goal.at.returns c).After-write_groups-gap) (58 ∷ 58 ∷ []) (back (goal.at.returns c).After-write_groups-gap))
-    (put_then a.out.now m v.new.out a.at (end (goal.at.returns c).After-write_groups-gap + 2) v.result (front (goal.at.returns c).After-write_groups-gap ++ (58 ∷ 58 ∷ [])) (back (goal.at.returns c).After-write_groups-gap) (omega (arith, w.ensures.0)) left right)
+    let left : Put a.out.now m a.at (end here + 2) (front here ++ (58 ∷ 58 ∷ [])) = put_then a.out.now (out here) m a.at (end here) (end here + 2) (front here) (58 ∷ 58 ∷ []) (omega (arith, w.ensures.0)) w.ensures colons in
+    let right : Put m v.new.out (end here + 2) v.result (back here) = put_as m v.new.out (end here + 2) v.result (groups_text (take (length g - a.after) (drop a.after g))) (back here) (ap groups_text (rest_whole g a.after)) v.ensures in
+    put_as a.out.now v.new.out a.at v.result ((front here ++ (58 ∷ 58 ∷ [])) ++ back here) (front here ++ (58 ∷ 58 ∷ back here)) (append_assoc (front here) (58 ∷ 58 ∷ []) (back here)) (put_then a.out.now m v.new.out a.at (end here + 2) v.result (front here ++ (58 ∷ 58 ∷ [])) (back here) (omega (arith, w.ensures.0)) left right)

@@ -33,42 +33,68 @@ record Sides (c : After-count_groups-b) : Type 0 where
   lefts : c.count_groups-a.result.count ≡ length (side_groups (front c))
   rights : c.count_groups-b.result.count ≡ length (side_groups (back c))
 
-sides : (c : Else-not-b) → Sides record { before = c.before.before.before.before.before; type_inv = record { back = c.shared_slice_known-2-1.given; front = c.shared_slice_known-1.given } }
+abbrev count_groups_b : Else-not-b → After-count_groups-b
+count_groups_b c = record { before = c.before.before.before.before.before; type_inv = record { back = c.shared_slice_known-2-1.given; front = c.shared_slice_known-1.given } }
+
+sides : (c : Else-not-b) → Sides (count_groups_b c)
 sides c =
-    let l = front_is record { before = c.before.before.before.before.before; type_inv = record { back = c.shared_slice_known-2-1.given; front = c.shared_slice_known-1.given } } true (not-false c.count_groups-a.result.formed c.if-not-a.false) in
-    let r = back_is record { before = c.before.before.before.before.before; type_inv = record { back = c.shared_slice_known-2-1.given; front = c.shared_slice_known-1.given } } true (not-false c.count_groups-b.result.formed c.if-not-b.false) in
-    record { left = l; right = r; lefts = count_is c.count_groups-a.result (front record { before = c.before.before.before.before.before; type_inv = record { back = c.shared_slice_known-2-1.given; front = c.shared_slice_known-1.given } }) c.count_groups-a.ensures l; rights = count_is c.count_groups-b.result (back record { before = c.before.before.before.before.before; type_inv = record { back = c.shared_slice_known-2-1.given; front = c.shared_slice_known-1.given } }) c.count_groups-b.ensures r }
+    let l = front_is (count_groups_b c) true (not-false c.count_groups-a.result.formed c.if-not-a.false) in
+    let r = back_is (count_groups_b c) true (not-false c.count_groups-b.result.formed c.if-not-b.false) in
+    record {
+      left = l;
+      right = r;
+      lefts = count_is c.count_groups-a.result (front (count_groups_b c)) c.count_groups-a.ensures l;
+      rights = count_is c.count_groups-b.result (back (count_groups_b c)) c.count_groups-b.ensures r;
+    }
 
 pub returns-then-not-a : goal.returns-then-not-a
 returns-then-not-a c =
-    c.nothing.ensures ∙ sides_bad (front (goal.at.returns-then-not-a c).After-count_groups-b) (back (goal.at.returns-then-not-a c).After-count_groups-b) (front_bad (front (goal.at.returns-then-not-a c).After-count_groups-b) (back (goal.at.returns-then-not-a c).After-count_groups-b) (front_is (goal.at.returns-then-not-a c).After-count_groups-b false (not-true c.count_groups-a.result.formed c.if-not-a.true)))
+    let here = (goal.at.returns-then-not-a c).After-count_groups-b in
+    c.nothing.ensures ∙ sides_bad (front here) (back here) (front_bad (front here) (back here) (front_is here false (not-true c.count_groups-a.result.formed c.if-not-a.true)))
 
 pub returns-then-not-b : goal.returns-then-not-b
 returns-then-not-b c =
-    c.nothing-then-not-b.ensures ∙ sides_bad (front (goal.at.returns-then-not-b c).After-count_groups-b) (back (goal.at.returns-then-not-b c).After-count_groups-b) (back_bad (front (goal.at.returns-then-not-b c).After-count_groups-b) (back (goal.at.returns-then-not-b c).After-count_groups-b) (back_is (goal.at.returns-then-not-b c).After-count_groups-b false (not-true c.count_groups-b.result.formed c.if-not-b.true)))
+    let here = (goal.at.returns-then-not-b c).After-count_groups-b in
+    c.nothing-then-not-b.ensures ∙ sides_bad (front here) (back here) (back_bad (front here) (back here) (back_is here false (not-true c.count_groups-b.result.formed c.if-not-b.true)))
 
 pub returns-then-m-gt7 : goal.returns-then-m-gt7
 returns-then-m-gt7 c =
-    let s = sides (goal.at.returns-then-m-gt7 c).Else-not-b in
-    c.nothing-then-m-gt7.ensures ∙ sides_bad (front (goal.at.returns-then-m-gt7 c).After-count_groups-b) (back (goal.at.returns-then-m-gt7 c).After-count_groups-b) (sides_many (front (goal.at.returns-then-m-gt7 c).After-count_groups-b) (back (goal.at.returns-then-m-gt7 c).After-count_groups-b) (omega (arith, s.lefts)))
+    let else_not_b = (goal.at.returns-then-m-gt7 c).Else-not-b in
+    let count_groups_b = (goal.at.returns-then-m-gt7 c).After-count_groups-b in
+    let s = sides else_not_b in
+    c.nothing-then-m-gt7.ensures ∙ sides_bad (front count_groups_b) (back count_groups_b) (sides_many (front count_groups_b) (back count_groups_b) (omega (arith, s.lefts)))
 
 pub returns-then-m-n : goal.returns-then-m-n
 returns-then-m-n c =
-    let s = sides (goal.at.returns-then-m-n c).Else-not-b in
-    c.nothing-then-m-n.ensures ∙ sides_bad (front (goal.at.returns-then-m-n c).After-count_groups-b) (back (goal.at.returns-then-m-n c).After-count_groups-b) (sides_many (front (goal.at.returns-then-m-n c).After-count_groups-b) (back (goal.at.returns-then-m-n c).After-count_groups-b) (omega (arith, s.lefts, s.rights)))
+    let else_not_b = (goal.at.returns-then-m-n c).Else-not-b in
+    let count_groups_b = (goal.at.returns-then-m-n c).After-count_groups-b in
+    let s = sides else_not_b in
+    c.nothing-then-m-n.ensures ∙ sides_bad (front count_groups_b) (back count_groups_b) (sides_many (front count_groups_b) (back count_groups_b) (omega (arith, s.lefts, s.rights)))
 
 pub put_groups-requires : goal.put_groups-requires
-put_groups-requires c = let s = sides (goal.at.put_groups-requires c).Else-not-b in record { under = side_under (front (goal.at.put_groups-requires c).After-count_groups-b) s.left; text_in_bounds = omega (arith, s.lefts) }
+put_groups-requires c =
+    let else_not_b = (goal.at.put_groups-requires c).Else-not-b in
+    let count_groups_b = (goal.at.put_groups-requires c).After-count_groups-b in
+    let s = sides else_not_b in record { under = side_under (front count_groups_b) s.left; text_in_bounds = omega (arith, s.lefts) }
 
 pub put_groups-requires-2 : goal.put_groups-requires-2
-put_groups-requires-2 c = let s = sides (goal.at.put_groups-requires-2 c).Else-not-b in record { under = side_under (back (goal.at.put_groups-requires-2 c).After-count_groups-b) s.right; text_in_bounds = omega (arith, s.rights, c.put_groups.auto.out) }
+put_groups-requires-2 c =
+    let else_not_b = (goal.at.put_groups-requires-2 c).Else-not-b in
+    let count_groups_b = (goal.at.put_groups-requires-2 c).After-count_groups-b in
+    let s = sides else_not_b in
+    record {
+      under = side_under (back count_groups_b) s.right;
+      text_in_bounds = omega (arith, s.rights, c.put_groups.auto.out);
+    }
 
 pub returns : goal.returns
 unfolding blank
 returns c =
-    let s = sides (goal.at.returns c).Else-not-b in
+    let else_not_b = (goal.at.returns c).Else-not-b in
+    let count_groups_b = (goal.at.returns c).After-count_groups-b in
+    let s = sides else_not_b in
     let u = c.put_groups in
     let v = c.put_groups-2 in
-    let g = v.ensures ∙ ap (λ (l : List ℕ). written l (8 - c.count_groups-b.result.count) (side_groups (back (goal.at.returns c).After-count_groups-b))) u.ensures
-    ∙ ap (λ (n : ℕ). written (written (blank 8) 0 (side_groups (front (goal.at.returns c).After-count_groups-b))) (8 - n) (side_groups (back (goal.at.returns c).After-count_groups-b))) s.rights in
-    (λ i. record { formed = true; address = c.octets_of-address.ensures i }) ∙ sides_good (front (goal.at.returns c).After-count_groups-b) (back (goal.at.returns c).After-count_groups-b) v.new.out s.left s.right (omega (arith, s.lefts, s.rights)) g
+    let g = v.ensures ∙ ap (λ (l : List ℕ). written l (8 - c.count_groups-b.result.count) (side_groups (back count_groups_b))) u.ensures
+    ∙ ap (λ (n : ℕ). written (written (blank 8) 0 (side_groups (front count_groups_b))) (8 - n) (side_groups (back count_groups_b))) s.rights in
+    (λ i. record { formed = true; address = c.octets_of-address.ensures i }) ∙ sides_good (front count_groups_b) (back count_groups_b) v.new.out s.left s.right (omega (arith, s.lefts, s.rights)) g
