@@ -16,7 +16,6 @@ ghost use Rattle.std.specs.Prelude.{◌≡◌, ◌+◌, ◌≤◌, length, IfOk,
 ghost use Rattle.plan.specs.Layout.{record_size};
 
 use std::io;
-use std::io::Read;
 
 mod print;
 mod text;
@@ -38,26 +37,10 @@ const REWRITES: u8 = 255;
 
 fn main(rt: HostRuntime) -> io::Result<()> {
     let mut script = [0u8; SCRIPT];
-    let n = read_full(&rt, &mut script)?;
+    let n = input::inside::fill(&mut rt.reader(), &mut script)?;
     let mut table = [0u8; TABLE];
     let mut kept = [0u8; TABLE];
     run(&rt, &script[..n], &mut table, &mut kept)
-}
-
-// Reads standard input until the buffer is full or the input ends; how many octets were read.
-fn read_full(rt: &impl Input, buf: &mut [u8]) -> io::Result<usize>
-    ensures { IfOk result (λ n. n ≤ length buf.new) }
-{
-    let mut input = rt.reader();
-    let mut done: usize = 0;
-    while done < buf.len() {
-        let n = input.read(&mut buf[done..])?;
-        if n == 0 {
-            break;
-        }
-        done += n;
-    }
-    Ok(done)
 }
 
 // The lines of a script, one after the other. The plan is the first `size` octets of the table, and zeros follow it.

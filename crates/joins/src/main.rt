@@ -3,10 +3,9 @@
 // read, and a case that is cut short gets no answer.
 #![tactic(auto)]
 
-ghost use Rattle.std.specs.Prelude.{◌≡◌, ◌≤◌, length, IfOk};
+ghost use Rattle.std.specs.Prelude.{◌≡◌, length};
 
 use std::io;
-use std::io::Read;
 
 // The octets of a case, and the most octets that are read: all 256 positions for seven pairs of addresses.
 const CASE: usize = 33;
@@ -15,24 +14,8 @@ const MOST: usize = 7 * 256 * CASE;
 
 fn main(rt: HostRuntime) -> io::Result<()> {
     let mut input = [0u8; MOST];
-    let n = read_full(&rt, &mut input)?;
+    let n = input::inside::fill(&mut rt.reader(), &mut input)?;
     answer(&rt, &input[..n])
-}
-
-// Reads standard input until the buffer is full or the input ends; how many octets were read.
-fn read_full(rt: &impl Input, buf: &mut [u8]) -> io::Result<usize>
-    ensures { IfOk result (λ n. n ≤ length buf.new) }
-{
-    let mut input = rt.reader();
-    let mut done: usize = 0;
-    while done < buf.len() {
-        let n = input.read(&mut buf[done..])?;
-        if n == 0 {
-            break;
-        }
-        done += n;
-    }
-    Ok(done)
 }
 
 // The cases, one after the other.

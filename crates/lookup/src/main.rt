@@ -3,10 +3,7 @@
 // and for 2 and 3 the index of the record and the number of its field (T-04).
 #![tactic(auto)]
 
-ghost use Rattle.std.specs.Prelude.{◌≤◌, length, IfOk};
-
 use std::io;
-use std::io::Read;
 
 // The octets of a slot, and the most octets that are read: the slot and 120 records.
 const SLOT: usize = 256;
@@ -20,24 +17,8 @@ const ROOM: usize = 64;
 
 fn main(rt: HostRuntime) -> io::Result<()> {
     let mut input = [0u8; MOST + 1];
-    let n = read_full(&rt, &mut input)?;
+    let n = input::inside::fill(&mut rt.reader(), &mut input)?;
     answer(&rt, &input[..n])
-}
-
-// Reads standard input until the buffer is full or the input ends; how many octets were read.
-fn read_full(rt: &impl Input, buf: &mut [u8]) -> io::Result<usize>
-    ensures { IfOk result (λ n. n ≤ length buf.new) }
-{
-    let mut input = rt.reader();
-    let mut done: usize = 0;
-    while done < buf.len() {
-        let n = input.read(&mut buf[done..])?;
-        if n == 0 {
-            break;
-        }
-        done += n;
-    }
-    Ok(done)
 }
 
 // The answer to the whole input. A slot that is missing or not zero after its name comes before too many octets.

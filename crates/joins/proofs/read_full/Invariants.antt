@@ -1,9 +1,0 @@
--- `joins::read_full` stays within the buffer, and ends.
-use Rattle.std.proofs.Common.{◌≤◌, ◌-◌, length}
-use Rattle.joins.proofs.read_full.Given as goal
-
-abbrev pub invariant-loop-done : goal.invariant-loop-done
-invariant-loop-done g l = l.done ≤ length l.buf
-
-abbrev pub decreases-loop-done : goal.decreases-loop-done
-decreases-loop-done g l = length l.buf - l.done
