@@ -59,5 +59,11 @@ returns c =
     let f = c.figure.ensures in
     let out = ap length (kept here).0 in
     let figures = ap length (kept here).1 in
-    let y = written _ _ (laid_number v a.before (length a.out.now)) (laid_of v a.before) (length a.out.now) (fitting here) (o.value ∙ ap (λ (n : ℕ). answer_by (laid_number v a.before n) (length (laid_of v a.before)) 0) out, o.out_after ∙ ap (λ (n : ℕ). out_by (laid_number v a.before n) (laid_of v a.before) n) out) (f.number ∙ ap (λ (n : ℕ). exported_number of_part n c.lay-answer.result.number) figures, f.figured ∙ ap (exported_figures c.figure.result c.lay-answer.result) figures) in
+    let y = written _ _ (laid_number v a.before (length a.out.now)) (laid_of v a.before) (length a.out.now) (fitting here) (
+      o.value ∙ ap (λ (n : ℕ). answer_by (laid_number v a.before n) (length (laid_of v a.before)) 0) out,
+      o.out_after ∙ ap (λ (n : ℕ). out_by (laid_number v a.before n) (laid_of v a.before) n) out,
+    ) (
+      f.number ∙ ap (λ (n : ℕ). exported_number of_part n c.lay-answer.result.number) figures,
+      f.figured ∙ ap (exported_figures c.figure.result c.lay-answer.result) figures,
+    ) in
     record { number = y.0; output = y.1.0; figured = y.1.1 }

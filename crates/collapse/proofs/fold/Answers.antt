@@ -69,7 +69,9 @@ slice_known_2_1 c = record { before = c.before.before; type_inv = record { out =
 earns_seven : (c : Then-most-n) → number_of (table (start_of_then_most_n c)) (name (start_of_then_most_n c)) (size (start_of_then_most_n c)) ≡ 7
 earns_seven c =
     let k = c.put_all-n.ensures.over c.if-most-n.true in
-    number_room (table (start_of_then_most_n c)) (name (start_of_then_most_n c)) (size (start_of_then_most_n c)) (valid (start_of_then_most_n c)) c.requires.2 (quiet (else_shortest_longest c)) (passes_limit (size (start_of_then_most_n c)) (fold_of (name (start_of_then_most_n c)) (table (start_of_then_most_n c))) (omega (arith, k, most (slice_known_2_1 c))))
+    let s = start_of_then_most_n c in
+    let over = passes_limit (size s) (fold_of (name s) (table s)) (omega (arith, k, most (slice_known_2_1 c))) in
+    number_room (table s) (name s) (size s) (valid s) c.requires.2 (quiet (else_shortest_longest c)) over
 
 abbrev start_of_else_most_n : Else-most-n → Start
 start_of_else_most_n c = c.before.before.before.before.before.before.before.before.before.before.before.before
@@ -89,7 +91,9 @@ else_shortest_longest_of_else_most_n c = record { before = c.before.before.befor
 
 earns_none : (c : Else-most-n) → number_of (table (start_of_else_most_n c)) (name (start_of_else_most_n c)) (size (start_of_else_most_n c)) ≡ 0
 earns_none c =
-    number_done (table (start_of_else_most_n c)) (name (start_of_else_most_n c)) (size (start_of_else_most_n c)) (valid (start_of_else_most_n c)) c.requires.2 (quiet (else_shortest_longest_of_else_most_n c)) (passes_not (size (start_of_else_most_n c)) (fold_of (name (start_of_else_most_n c)) (table (start_of_else_most_n c))) (fits c).0 (fits c).1)
+    let s = start_of_else_most_n c in
+    let under = passes_not (size s) (fold_of (name s) (table s)) (fits c).0 (fits c).1 in
+    number_done (table s) (name s) (size s) (valid s) c.requires.2 (quiet (else_shortest_longest_of_else_most_n c)) under
 
 pub returns-then-shortest-longest : goal.returns-then-shortest-longest
 returns-then-shortest-longest c =
