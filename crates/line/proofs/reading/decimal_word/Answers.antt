@@ -10,6 +10,7 @@ use Rattle.text.specs.declared.numbers.Decimal.{Decimal}
 use Rattle.text.specs.Decimal.{digit_count, decimal_of, is_decimal, decimal_at}
 use Rattle.line.specs.Walk.{not_blank}
 use Rattle.line.proofs.WalkedLaws.{decimal_inside, decimal_unformed, decimal_end, decimal_over, decimal_within, decimal_value, number_not}
+use Rattle.line.proofs.reading.decimal_word.Goals.{Else-not-stops}
 use Rattle.line.proofs.reading.decimal_word.Goals as goal
 
 pub returns-then-not-d : goal.returns-then-not-d
@@ -28,36 +29,44 @@ returns-then-not-stops c =
     number_not a.body.now a.at a.bound c.no_number-then-not-stops.result c.no_number-then-not-stops.ensures
     (decimal_inside a.body.now a.at a.bound d.result.next (ap (λ (r : Decimal). r.next) d.ensures) (eqb-false _ 0 (sym c.stops.ensures ∙ c.if-not-stops.true)))
 
-pub returns-then-bound-value : goal.returns-then-bound-value
+-- a decimal with nothing but a blank, or the end, after its digits
+value : (c : Else-not-stops) → c.read_decimal-d.result.value ≡ min (c.args.bound + 1) (decimal_of (drop c.args.at c.args.body.now))
 unfolding decimal_at
+value c = ap (λ (r : Decimal). r.value) c.read_decimal-d.ensures
+
+next : (c : Else-not-stops) → c.read_decimal-d.result.next ≡ c.args.at + digit_count (drop c.args.at c.args.body.now)
+unfolding decimal_at
+next c = ap (λ (r : Decimal). r.next) c.read_decimal-d.ensures
+
+alone : (c : Else-not-stops) → leading not_blank (drop c.read_decimal-d.result.next c.args.body.now) ≡ 0
+alone c = eqb-true _ 0 (sym c.stops.ensures ∙ c.if-not-stops.false)
+
+formed : (c : Else-not-stops) → is_decimal (drop c.args.at c.args.body.now) ≡ true
+unfolding decimal_at
+formed c = sym (ap (λ (r : Decimal). r.formed) c.read_decimal-d.ensures) ∙ not-false c.read_decimal-d.result.formed c.if-not-d.false
+
+pub returns-then-bound-value : goal.returns-then-bound-value
 returns-then-bound-value c =
     let a = c.args in
     let s = a.body.now in
-    let d = c.read_decimal-d in
-    let f : d.result.formed ≡ is_decimal (drop a.at s) = ap (λ (r : Decimal). r.formed) d.ensures in
-    let g : d.result.value ≡ min (a.bound + 1) (decimal_of (drop a.at s)) = ap (λ (r : Decimal). r.value) d.ensures in
-    let n : d.result.next ≡ a.at + digit_count (drop a.at s) = ap (λ (r : Decimal). r.next) d.ensures in
-    let h : leading not_blank (drop d.result.next s) ≡ 0 = eqb-true _ 0 (sym c.stops.ensures ∙ c.if-not-stops.false) in
-    let t : is_decimal (drop a.at s) ≡ true = sym f ∙ not-false d.result.formed c.if-not-d.false in
+    let d = c.read_decimal-d.result in
+    let here = (goal.at.returns-then-bound-value c).Else-not-stops in
+    let g = value here in
     record {
-      number = sym (decimal_over s a.at a.bound d.result.next d.result.value n h t g (omega arith));
-      value = λ k. decimal_value s a.at a.bound d.result.value g;
-      next = λ k. decimal_end s a.at d.result.next n h;
+      number = sym (decimal_over s a.at a.bound d.next d.value (next here) (alone here) (formed here) g (omega arith));
+      value = λ k. decimal_value s a.at a.bound d.value g;
+      next = λ k. decimal_end s a.at d.next (next here) (alone here);
     }
 
 pub returns : goal.returns
-unfolding decimal_at
 returns c =
     let a = c.args in
     let s = a.body.now in
-    let d = c.read_decimal-d in
-    let f : d.result.formed ≡ is_decimal (drop a.at s) = ap (λ (r : Decimal). r.formed) d.ensures in
-    let g : d.result.value ≡ min (a.bound + 1) (decimal_of (drop a.at s)) = ap (λ (r : Decimal). r.value) d.ensures in
-    let n : d.result.next ≡ a.at + digit_count (drop a.at s) = ap (λ (r : Decimal). r.next) d.ensures in
-    let h : leading not_blank (drop d.result.next s) ≡ 0 = eqb-true _ 0 (sym c.stops.ensures ∙ c.if-not-stops.false) in
-    let t : is_decimal (drop a.at s) ≡ true = sym f ∙ not-false d.result.formed c.if-not-d.false in
+    let d = c.read_decimal-d.result in
+    let here = (goal.at.returns c).Else-not-stops in
+    let g = value here in
     record {
-      number = sym (decimal_within s a.at a.bound d.result.next d.result.value n h t g (omega arith));
-      value = λ k. decimal_value s a.at a.bound d.result.value g;
-      next = λ k. decimal_end s a.at d.result.next n h;
+      number = sym (decimal_within s a.at a.bound d.next d.value (next here) (alone here) (formed here) g (omega arith));
+      value = λ k. decimal_value s a.at a.bound d.value g;
+      next = λ k. decimal_end s a.at d.next (next here) (alone here);
     }

@@ -4,7 +4,12 @@ use native.Mathlib.Omega.{arith}
 use Rattle.line.specs.Walk.{word_end, tail_from}
 use Rattle.line.proofs.WalkLaws.{end_within}
 use Rattle.line.proofs.RestLaws.{at_within, rest_not, full_none, address_missed, finished_more, finished_is}
+use Rattle.line.proofs.reading.finished.Goals.{Else-a-ne0}
 use Rattle.line.proofs.reading.finished.Goals as goal
+
+-- where its reader ends the word of the address ends
+ends : (c : Else-a-ne0) → c.address_word-a.result.next ≡ word_end c.args.body.now c.args.at
+ends c = let g = c.if-a-ne0.false in c.address_word-a.ensures.next (λ z. omega arith)
 
 pub address_word-a-requires : goal.address_word-a-requires
 address_word-a-requires c = let a = c.args in let q = c.requires in at_within a.body.now a.from a.at q.0 q.1
@@ -25,7 +30,7 @@ returns-then-a-body c =
     let s = a.body.now in
     let d = c.address_word-a in
     let g = c.if-a-ne0.false in
-    let n : d.result.next ≡ word_end s a.at = d.ensures.next (λ z. omega arith) in
+    let n = ends (goal.at.returns-then-a-body c).Else-a-ne0 in
     let w = end_within s a.at (at_within s a.from a.at q.0 q.1) in
     rest_not s a.from 0 c.no_rest-then-a-body.result c.no_rest-then-a-body.ensures
     (finished_more s a.from a.at q.0 q.1 (sym d.ensures.number ∙ g) (omega arith))
@@ -37,5 +42,5 @@ returns c =
     let s = a.body.now in
     let d = c.address_word-a in
     let g = c.if-a-ne0.false in
-    let n : d.result.next ≡ word_end s a.at = d.ensures.next (λ z. omega arith) in
+    let n = ends (goal.at.returns c).Else-a-ne0 in
     finished_is s a.from a.at q.0 q.1 (sym d.ensures.number ∙ g) (sym n ∙ c.if-a-body.false) _ refl (d.ensures.value (λ z. omega arith)) c.no_name.ensures
