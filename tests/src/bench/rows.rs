@@ -42,8 +42,8 @@ const WORST: Option<f64> = Some(4.0);
 const LAYOUT: Option<f64> = Some(1.2);
 /// The bound on growth: the most over the least at 64, 256 and 1,024 records.
 const GROWTH: Option<f64> = Some(1.2);
-/// The bound on reading a plan of 1,024 lines, over the check of a table of 1,024 records: a millisecond on the machine of
-/// docs/PERFORMANCE.md, where that check takes 22 µs.
+/// The bound on reading a plan of 1,024 lines, over the check of a table of 1,024 records: a millisecond on a machine
+/// where that check takes 22 µs (docs/PERFORMANCE.md).
 const MILLISECOND: Option<f64> = Some(45.0);
 /// The design says that a lookup should cost little more than the check, and gives no number.
 const LITTLE: Option<f64> = None;
