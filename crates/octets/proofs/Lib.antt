@@ -7,3 +7,4 @@ pub mod AmongLaws
 pub mod NumberLaws
 pub mod BoolLaws
 pub mod AnswerLaws
+pub mod RefusalLaws

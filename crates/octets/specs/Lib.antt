@@ -1,5 +1,6 @@
 pub mod Octets
 pub mod Answers
+pub mod Refusals
 pub mod Zeros
 pub mod Numbers
 pub mod Each

@@ -1,0 +1,26 @@
+-- Laws of refusals: a refusal is told by its number.
+use Rattle.std.proofs.Common.{◌≡◌, refl}
+use Rattle.octets.specs.declared.Refusal.{Refusal}
+use Rattle.octets.specs.declared.Refusal.TheVariants.{Length, Record, Repeat, Given, Output, Limit, Room, TooLong, Reviving, Prefix, Short, Malformed, LeftOver, Form, Range, Name, Space}
+use Rattle.octets.specs.Refusals.{code_of, told}
+
+-- each refusal is the one that its number tells: `told_code Short : told 11 ≡ Short`
+pub told_code : (e : Refusal) → told (code_of e) ≡ e
+unfolding told
+told_code Length = refl
+told_code Record = refl
+told_code Repeat = refl
+told_code Given = refl
+told_code Output = refl
+told_code Limit = refl
+told_code Room = refl
+told_code TooLong = refl
+told_code Reviving = refl
+told_code Prefix = refl
+told_code Short = refl
+told_code Malformed = refl
+told_code LeftOver = refl
+told_code Form = refl
+told_code Range = refl
+told_code Name = refl
+told_code Space = refl
