@@ -1,5 +1,5 @@
 -- Laws of refusals: a refusal is told by its number.
-use Rattle.std.proofs.Common.{◌≡◌, refl}
+use Rattle.std.proofs.Common.{◌≡◌, refl, arith}
 use Rattle.octets.specs.declared.Refusal.{Refusal}
 use Rattle.octets.specs.declared.Refusal.TheVariants.{Length, Record, Repeat, Given, Output, Limit, Room, TooLong, Reviving, Prefix, Short, Malformed, LeftOver, Form, Range, Name, Space}
 use Rattle.octets.specs.Refusals.{code_of, told}
@@ -24,3 +24,23 @@ told_code Form = refl
 told_code Range = refl
 told_code Name = refl
 told_code Space = refl
+
+-- and none has number 0
+pub code_some : (e : Refusal) → code_of e ≡ 0 → ⊥
+code_some Length h = omega arith
+code_some Record h = omega arith
+code_some Repeat h = omega arith
+code_some Given h = omega arith
+code_some Output h = omega arith
+code_some Limit h = omega arith
+code_some Room h = omega arith
+code_some TooLong h = omega arith
+code_some Reviving h = omega arith
+code_some Prefix h = omega arith
+code_some Short h = omega arith
+code_some Malformed h = omega arith
+code_some LeftOver h = omega arith
+code_some Form h = omega arith
+code_some Range h = omega arith
+code_some Name h = omega arith
+code_some Space h = omega arith
