@@ -7,19 +7,30 @@ use lib.Dec.{eqb}
 use lib.ListN.{length, take}
 use native.Mathlib.Omega.{arith}
 use borrow.Author.Tests.{eqb-true, eqb-false, not-false}
+use Rattle.std.specs.Prelude.{⊤, Ok, Err}
 use Rattle.octets.specs.Octets.{Small}
-use Rattle.octets.specs.Answers.{earns, or_else}
-use Rattle.octets.proofs.AnswerLaws.{earns_zero, else_zero, else_later}
+use Rattle.octets.specs.declared.Done.{Done}
+use Rattle.octets.specs.declared.Refusal.{Refusal}
+use Rattle.octets.specs.Refusals.{code_of, answered}
+use Rattle.octets.specs.Answers.{earns, or_else, refusal}
+use Rattle.octets.proofs.AnswerLaws.{earns_zero, else_zero, else_kept, else_later}
 use Rattle.labels.specs.Scan.{well_formed}
 use Rattle.names.specs.Standard.{standard_of, in_standard_form}
 use Rattle.names.specs.Name.{held_of}
+use Rattle.names.specs.declared.Name.{Name}
 use Rattle.names.proofs.NameLaws.{held_some, held_none, held_part, held_standard}
-use Rattle.plan.specs.Check.{check_of, entry_number, InOrder}
-use Rattle.plan.specs.Faults.{fault_in}
-use Rattle.plan.specs.declared.inside.Entered.{Entered}
+use Rattle.plan.specs.Check.{check_of, check_answer, entry_number, InOrder}
+use Rattle.plan.specs.Faults.{no_place, fault_in, replying, placeless, replied, judged}
+use Rattle.plan.specs.declared.Refused.{Refused}
+use Rattle.plan.proofs.PlaceLaws.{fault_other, replies, judged_err}
 use Rattle.plan.proofs.OrderLaws.{check_most}
 
 module _ (t name : List ℕ) where
+  -- refused by the check
+  pub entry_refused : (e : Refused) → judged {A = ⊤} (Err e) ≡ replying t (check_answer t) → (code_of e.refusal ≡ entry_number t name) × (e.fault ≡ fault_in t)
+  unfolding entry_number
+  entry_refused e h = let w = judged_err t e h in (w.1 ∙ sym (else_kept (check_of t) _ w.0), w.2)
+
   -- the held name has length 0 exactly when it is malformed
   pub entry_held : Small name → or_else (check_of t) (earns (eqb (held_of name).length 0) 4 0) ≡ entry_number t name
   unfolding entry_number
@@ -54,28 +65,34 @@ module _ (t name : List ℕ) where
       let z = else_zero (check_of t) _ e in
       (z.0, not-false (well_formed name) (earns_zero (not (well_formed name)) 3 0 z.1).0)
 
--- what `enter` gives to one that takes n octets of the name: the number, the place of the table's fault, and where the number is 0, a table in order and the name's standard form
-pub record Enters (t name : List ℕ) (e : Entered) (n : ℕ) : Type 0 where
-  pub earned : e.number ≡ entry_number t name
-  pub placed : e.fault ≡ fault_in t
-  pub fits : n ≤ length e.name.octets
-  pub sound : e.number ≡ 0 → InOrder t × (well_formed name ≡ true)
-  pub part : e.number ≡ 0 → take n e.name.octets ≡ standard_of name
-  pub standing : Small name → e.number ≡ 0 → in_standard_form (take n e.name.octets) ≡ true
+-- what `enter` gives to one that takes n octets of the name that it holds: a table in order, and the name's standard form
+pub record Enters (t name : List ℕ) (held : Name) (n : ℕ) : Type 0 where
+  pub order : InOrder t
+  pub formed : well_formed name ≡ true
+  pub fits : n ≤ length held.octets
+  pub part : take n held.octets ≡ standard_of name
+  pub standing : Small name → in_standard_form (take n held.octets) ≡ true
 
-pub enters : (t name : List ℕ) (e : Entered) (n : ℕ) → length e.name.octets ≡ 255 → (e.number ≡ entry_number t name) × (e.fault ≡ fault_in t) × (e.name ≡ held_of name)
-    → (n ≡ e.name.length) × (n < 256) → Enters t name e n
-enters t name e n l h w = record {
-  earned = h.0;
-  placed = h.1;
-  fits = omega (arith, w.1);
-  sound = sound;
-  part = part;
-  standing = λ s z. rw (part z) (held_standard name s (sound z).1);
-}
+pub enters : (t name : List ℕ) (held : Name) (n : ℕ) → length held.octets ≡ 255 → (entry_number t name ≡ 0) × (held ≡ held_of name) → (n ≡ held.length) × (n < 256) → Enters t name held n
+enters t name held n l h w = record { order = sound.0; formed = sound.1; fits = omega (arith, w.1); part = part; standing = λ s. rw part (held_standard name s sound.1) }
   where
-    sound : e.number ≡ 0 → InOrder t × (well_formed name ≡ true)
-    sound z = entry_zero t name (sym h.0 ∙ z)
+    sound : InOrder t × (well_formed name ≡ true)
+    sound = entry_zero t name h.0
 
-    part : e.number ≡ 0 → take n e.name.octets ≡ standard_of name
-    part z = held_part name e.name n h.2 w.0 (sound z).1
+    part : take n held.octets ≡ standard_of name
+    part = held_part name held n h.1 w.0 sound.1
+
+-- what an operation on a table replies: done, or refused, where the table is in order
+module _ (t : List ℕ) (o : InOrder t) where
+  pub order_place : fault_in t ≡ no_place
+  order_place = fault_other t (λ e. omega arith) (λ e. omega arith)
+
+  pub reply_done : (d : Done) → replied (Ok d) ≡ replying t (answered (Ok d))
+  reply_done d = replies t refl (sym order_place)
+
+  pub reply_refused : (r : Refusal) → replied (Err (placeless r)) ≡ replying t (answered (Err r))
+  reply_refused r = replies t refl (sym order_place)
+
+-- refused with the fault of the table
+pub reply_fault : (t : List ℕ) (e : Refused) → e.fault ≡ fault_in t → replied (Err e) ≡ replying t (refusal (code_of e.refusal))
+reply_fault t e h = replies t refl h

@@ -7,14 +7,21 @@ use mathlib.Core.Logic.{◌↔◌}
 use lib.Dec.{ltb}
 use native.Mathlib.Omega.{arith}
 use borrow.Author.Tests.{eq-eqb, ne_eqb, ltb-true, not-true, not-false}
+use Rattle.std.specs.Prelude.{⊤, Result, Ok, Err}
+use Rattle.std.specs.Result.{is_err}
 use Rattle.octets.specs.Answers.{earns, or_else, refusal}
+use Rattle.octets.specs.Refusals.{code_of}
+use Rattle.octets.specs.declared.Refusal.{Refusal}
+use Rattle.octets.specs.declared.Refusal.TheVariants.{Length, Record, Repeat, Given, Output, Limit, Room, TooLong, Reviving, Prefix, Short, Malformed, LeftOver, Form, Range, Name, Space}
 use Rattle.octets.specs.declared.Answer.{Answer}
 use Rattle.octets.proofs.AnswerLaws.{else_from, else_to}
 use Rattle.octets.proofs.BoolLaws.{clash, refuted}
 use Rattle.plan.specs.Layout.{count_of, record_at}
-use Rattle.plan.specs.Check.{field_count, owner_field, field_good, fault_of, faulty, first_fault, repeats, first_repeat, missized, check_of, check_answer}
-use Rattle.plan.specs.Faults.{fault_place, repeat_place, no_place, fault_in, replying, FaultAt, RepeatAt, Placed}
+use Rattle.plan.specs.Check.{field_count, owner_field, field_good, fault_of, faulty, first_fault, repeats, first_repeat, missized, check_of, check_answer, InOrder}
+use Rattle.plan.specs.Faults.{fault_place, repeat_place, no_place, fault_in, replying, placeless, judged, FaultAt, RepeatAt, Placed}
 use Rattle.plan.specs.declared.Fault.{Fault}
+use Rattle.plan.specs.declared.Refused.{Refused}
+use Rattle.plan.specs.declared.Reply.{Reply}
 use Rattle.plan.proofs.FirstLaws.{from_some, first_before, first_is}
 use Rattle.plan.proofs.FaultLaws.{fault_none, none_fault}
 use Rattle.plan.proofs.OrderLaws.{faulty_is, faulty_not, is_faulty, not_faulty, twins_repeat, repeat_twins}
@@ -37,8 +44,50 @@ module _ (t : List ℕ) where
   pub replies : {a b : Answer} {f : Fault} → a ≡ b → f ≡ fault_in t → record { answer = a; fault = f } ≡ replying t b
   replies e g = λ j. record { answer = e j; fault = g j }
 
-  pub replied : (k i f : ℕ) → check_of t ≡ k → fault_in t ≡ record { index = i; field = f } → record { answer = refusal k; fault = record { index = i; field = f } } ≡ replying t (check_answer t)
-  replied k i f e g = replies (ap refusal (sym e)) (sym g)
+-- no refusal has the number 0
+pub code_some : (e : Refusal) → code_of e ≡ 0 → ⊥
+code_some Length h = omega arith
+code_some Record h = omega arith
+code_some Repeat h = omega arith
+code_some Given h = omega arith
+code_some Output h = omega arith
+code_some Limit h = omega arith
+code_some Room h = omega arith
+code_some TooLong h = omega arith
+code_some Reviving h = omega arith
+code_some Prefix h = omega arith
+code_some Short h = omega arith
+code_some Malformed h = omega arith
+code_some LeftOver h = omega arith
+code_some Form h = omega arith
+code_some Range h = omega arith
+code_some Name h = omega arith
+code_some Space h = omega arith
+
+-- what comes of the check of a table: refused with its number and its fault, or the table is in order
+module _ (t : List ℕ) where
+  pub judged_placeless : (r : Refusal) (e : Refused) → e ≡ placeless r → check_of t ≡ code_of r → (code_of r ≡ 2 → ⊥) → (code_of r ≡ 3 → ⊥) → judged {A = ⊤} (Err e) ≡ replying t (check_answer t)
+  judged_placeless r e h k a b = rw h (replies t (ap refusal (sym k)) (sym (fault_other t (λ z. a (sym k ∙ z)) (λ z. b (sym k ∙ z)))))
+
+  pub judged_placed : (r : Refusal) (f : Fault) → check_of t ≡ code_of r → fault_in t ≡ f → judged {A = ⊤} (Err (record { refusal = r; fault = f })) ≡ replying t (check_answer t)
+  judged_placed r f k e = replies t (ap refusal (sym k)) (sym e)
+
+  pub judged_order : check_of t ≡ 0 → judged {A = ⊤} (Ok tt) ≡ replying t (check_answer t)
+  judged_order k = replies t (ap refusal (sym k)) (sym (fault_other t (λ z. omega arith) (λ z. omega arith)))
+
+  pub judged_ok : judged {A = ⊤} (Ok tt) ≡ replying t (check_answer t) → InOrder t
+  judged_ok h = sym (ap (λ (r : Reply). r.answer.number) h)
+
+  pub judged_err : (e : Refused) → judged {A = ⊤} (Err e) ≡ replying t (check_answer t) → (check_of t ≡ 0 → ⊥) × (code_of e.refusal ≡ check_of t) × (e.fault ≡ fault_in t)
+  judged_err e h = let k : code_of e.refusal ≡ check_of t = ap (λ (r : Reply). r.answer.number) h in (λ z. code_some e.refusal (k ∙ z), k, ap (λ (r : Reply). r.fault) h)
+
+  pub judged_refused : (r : Result ⊤ Refused) → is_err r ≡ true → judged r ≡ replying t (check_answer t) → check_of t ≡ 0 → ⊥
+  judged_refused (Ok x) e h = cc
+  judged_refused (Err d) e h = (judged_err d h).0
+
+  pub judged_taken : (r : Result ⊤ Refused) → is_err r ≡ false → judged r ≡ replying t (check_answer t) → InOrder t
+  judged_taken (Ok x) e h = judged_ok h
+  judged_taken (Err d) e h = cc
 
 -- the tests behind 2 and 3
 module _ (t : List ℕ) where

@@ -1,9 +1,14 @@
 -- Which record, and which of its fields (T-04): the fault of a table, and an answer with it beside.
-use Rattle.std.specs.Prelude.{ℕ, ◌<◌, ◌≡◌, true, false, List, eqb}
+use Rattle.std.specs.Prelude.{ℕ, ◌<◌, ◌≡◌, true, false, List, Result, Ok, Err, eqb}
 use Rattle.octets.specs.declared.Answer.{Answer}
+use Rattle.octets.specs.declared.Done.{Done}
+use Rattle.octets.specs.declared.Refusal.{Refusal}
+use Rattle.octets.specs.Answers.{answering, refusal}
+use Rattle.octets.specs.Refusals.{code_of}
 use Rattle.plan.specs.Layout.{count_of, record_at}
 use Rattle.plan.specs.Check.{field_count, owner_field, field_good, fault_of, first_fault, Twins, first_repeat, check_of}
 use Rattle.plan.specs.declared.Fault.{Fault}
+use Rattle.plan.specs.declared.Refused.{Refused}
 use Rattle.plan.specs.declared.Reply.{Reply}
 
 -- the place of the first field at fault in the first record at fault; of the owner of the first DNAME that has an earlier one's; and no place
@@ -23,6 +28,20 @@ fault_in t = elim (eqb (check_of t) 2) [ true ↦ fault_place t | false ↦ elim
 -- what an operation on a table replies: its answer, and the fault of the table beside it
 abbrev pub replying : List ℕ → Answer → Reply
 replying t a = record { answer = a; fault = fault_in t }
+
+-- a refusal for another reason than a fault of the table
+abbrev pub placeless : Refusal → Refused
+placeless r = record { refusal = r; fault = no_place }
+
+-- what comes of an operation on a table, as a reply
+abbrev pub replied : Result Done Refused → Reply
+replied (Ok d) = record { answer = answering d.count d.work; fault = no_place }
+replied (Err e) = record { answer = refusal (code_of e.refusal); fault = e.fault }
+
+-- what comes of a check of a table, as a reply: it has no figures
+abbrev pub judged : {A : Type 0} → Result A Refused → Reply
+judged (Ok x) = record { answer = answering 0 0; fault = no_place }
+judged (Err e) = record { answer = refusal (code_of e.refusal); fault = e.fault }
 
 -- 2's place as a statement: this field of this record is at fault, and before it there is none, neither in the record nor in an earlier one
 pub record FaultAt (t : List ℕ) (index field : ℕ) : Type 0 where

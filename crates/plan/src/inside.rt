@@ -1,7 +1,7 @@
 // What only our own layers call: the fields of a record by its index, and slots of names, compared and marked. Nobody else knows where a field stands.
-ghost use Rattle.std.specs.Prelude.{◌≡◌, true, ◌+◌, ◌*◌, ◌^◌, ◌≤◌, ◌<◌, eqb, length, get_or};
+ghost use Rattle.std.specs.Prelude.{◌≡◌, true, ◌+◌, ◌*◌, ◌^◌, ◌≤◌, ◌<◌, eqb, length, get_or, MatchResult};
 ghost use Rattle.std.proofs.Math.Seq.{paste};
-ghost use Rattle.octets.specs.Answers.{earns, or_else};
+ghost use Rattle.octets.specs.Refusals.{code_of};
 ghost use Rattle.names.specs.Standard.{same_name};
 ghost use Rattle.chains.specs.Lists.{pick};
 ghost use Rattle.plan.specs.Layout.{record_size, max_records, owner_place, name_room, slot_size, type_of, prefix_of, zero_of, address_of, owner_slot, target_slot, ttl_of, name_in, slot_of, record_of, count_of, record_at, prefix_at, address_at, owner_at, target_at, ttl_at};
@@ -14,7 +14,8 @@ ghost use Rattle.plan.specs.Marks.{word_at, pair_at, masked_at, term_at, sum_to,
 ghost use Rattle.plan.specs.Part.{owner_within};
 ghost use Rattle.plan.specs.Fields.{fields_of, slot_for, a6_record};
 
-use crate::{Fault, Part};
+use crate::{Part, Refused};
+use octets::Refusal;
 
 // The octets of a record (01, The plan table; T-01).
 pub const RECORD: usize = 536;
@@ -36,14 +37,6 @@ pub const DNAME: u16 = 39;
 // All bits of the four octets of a word but the one of each that tells the case of a letter (T-03).
 const CASELESS: usize = 0xDFDFDFDF;
 
-// What a table and a given name earn together, the place of the table's fault, and the name in standard form, none where it is malformed.
-#[derive(Clone, Copy)]
-pub struct Entered {
-    pub number: u8,
-    pub fault: Fault,
-    pub name: names::Name,
-}
-
 // The fields of an A6 record; a target of length 0 where it has none (T-06).
 #[derive(Clone, Copy)]
 pub struct Fields {
@@ -54,33 +47,16 @@ pub struct Fields {
     pub ttl: u32,
 }
 
-// The entry of each operation on a table and a given name: the check of the table, then the name.
-pub fn enter(table: &[u8], name: &[u8]) -> Entered
-    ensures { (result.number ≡ entry_number table.now name.now) × (result.fault ≡ fault_in table.now) × (result.name ≡ held_of name.now) }
+// The entry of each operation on a table and a given name: the check of the table, then the name, of which the standard form comes back.
+pub fn enter(table: &[u8], name: &[u8]) -> Result<names::Name, Refused>
+    ensures { MatchResult result (λ held. (entry_number table.now name.now ≡ 0) × (held ≡ held_of name.now)) (λ refused. (code_of refused.refusal ≡ entry_number table.now name.now) × (refused.fault ≡ fault_in table.now)) }
 {
+    crate::check(table)?;
     let held = names::hold(name);
-    let length = held.length;
-    let checked = crate::check(table);
-    let fault = checked.fault;
-    let number = named(checked.answer.number, length);
-    Entered {
-        number,
-        fault,
-        name: held,
+    if held.length == 0 {
+        return Err(Refused::from(Refusal::Given));
     }
-}
-
-// The table's number, or else 4 for a name of length 0, which is malformed.
-fn named(number: u8, length: u8) -> u8
-    ensures { result ≡ or_else number (earns (eqb length 0) 4 0) }
-{
-    if number != 0 {
-        return number;
-    }
-    if length == 0 {
-        return 4;
-    }
-    0
+    Ok(held)
 }
 
 // How many records a table has.

@@ -3,14 +3,15 @@
 
 ghost use Rattle.std.specs.Prelude.{◌≡◌, true, ◌≤◌, ◌<◌, length};
 ghost use Rattle.octets.specs.Octets.{among};
-ghost use Rattle.octets.specs.Answers.{refusal};
 ghost use Rattle.plan.specs.First.{some};
 ghost use Rattle.plan.specs.Layout.{record_size, max_records, slot_size, is_dname, count_of, record_at};
 ghost use Rattle.plan.specs.Check.{slot_good, type_good, prefix_good, address_good, target_good, ttl_good, fault_of, first_fault, twin, repeats, first_repeat, check_answer};
-ghost use Rattle.plan.specs.Faults.{replying};
+ghost use Rattle.plan.specs.Faults.{replying, placeless, replied, judged};
 ghost use Rattle.plan.specs.Marks.{mark_at, Ready};
 ghost use Rattle.plan.specs.Part.{IsPart, empty_part, owner_part};
 ghost use Rattle.plan.specs.Fields.{one_a6};
+
+use octets::{Answer, Done, Refusal};
 
 // The most records of a table (01, The plan table).
 const MAX_RECORDS: usize = 1024;
@@ -24,17 +25,69 @@ const FIELDS: u8 = 7;
 const OWNER_FIELD: u8 = 4;
 
 // The place of a table's fault (T-04): the index of the record, and the number of its field. Both are 0 where there is no such place.
-#[derive(Clone, Copy)]
+#[derive(Clone, Copy, Debug, PartialEq, Eq)]
 pub struct Fault {
     pub index: u32,
     pub field: u8,
 }
 
-// What an operation on a table replies: its answer, and beside it the place of the table's fault, for 2 and 3.
+// The place where there is no fault.
+const NO_PLACE: Fault = Fault { index: 0, field: 0 };
+
+// Why an operation on a table refuses, and the place of the table's fault.
+#[derive(Clone, Copy, Debug, PartialEq, Eq)]
+pub struct Refused {
+    pub refusal: Refusal,
+    pub fault: Fault,
+}
+
+// A refusal for another reason than a fault of the table.
+impl From<Refusal> for Refused {
+    ghost from_gives = { λ refusal refused. refused ≡ placeless refusal };
+
+    fn from(refusal: Refusal) -> Refused {
+        Refused {
+            refusal,
+            fault: NO_PLACE,
+        }
+    }
+}
+
+// What an operation on a table replies at the C interface: its answer, and beside it the place of the table's fault, for 2 and 3.
 #[derive(Clone, Copy)]
 pub struct Reply {
-    pub answer: octets::Answer,
+    pub answer: Answer,
     pub fault: Fault,
+}
+
+impl From<Result<Done, Refused>> for Reply {
+    ghost from_gives = { λ outcome reply. reply ≡ replied outcome };
+
+    fn from(outcome: Result<Done, Refused>) -> Reply {
+        match outcome {
+            Ok(done) => Reply {
+                answer: Answer {
+                    number: 0,
+                    count: done.count,
+                    work: done.work,
+                },
+                fault: NO_PLACE,
+            },
+            Err(refused) => Reply {
+                answer: octets::refused(refused.refusal as u8),
+                fault: refused.fault,
+            },
+        }
+    }
+}
+
+// The reply of a check, which has no figures.
+impl From<Result<(), Refused>> for Reply {
+    ghost from_gives = { λ outcome reply. reply ≡ judged outcome };
+
+    fn from(outcome: Result<(), Refused>) -> Reply {
+        Reply::from(outcome.map(|()| Done { count: 0, work: 0 }))
+    }
 }
 
 // A part of a table: where it starts and how many octets it has.
@@ -44,36 +97,36 @@ pub struct Part {
     pub length: usize,
 }
 
-// Whether a table is in order: 0, or 1, 2 or 3 (01, What comes back); for 2 and 3 also which record and which field (T-04).
-pub fn check(table: &[u8]) -> Reply
-    ensures { result ≡ replying table.now (check_answer table.now) }
+// Whether a table is in order; else 1, 2 or 3 (01, What comes back), for 2 and 3 with the record and the field (T-04).
+pub fn check(table: &[u8]) -> Result<(), Refused>
+    ensures { judged result ≡ replying table.now (check_answer table.now) }
 {
     let n = inside::count(table);
     if table.len() % inside::RECORD != 0 {
-        return told(1, 0, 0);
+        return Err(Refused::from(Refusal::Length));
     }
     if MAX_RECORDS < n {
-        return told(1, 0, 0);
+        return Err(Refused::from(Refusal::Length));
     }
     let found = first_fault(table);
     if (found.index as usize) < n {
-        return told(2, found.index, found.field);
+        return Err(Refused {
+            refusal: Refusal::Record,
+            fault: found,
+        });
     }
     let j = first_repeat(table);
     if j < n {
-        return told(3, j as u32, OWNER_FIELD);
+        let fault = Fault {
+            index: j as u32,
+            field: OWNER_FIELD,
+        };
+        return Err(Refused {
+            refusal: Refusal::Repeat,
+            fault,
+        });
     }
-    told(0, 0, 0)
-}
-
-// The check's reply: a number, and a place.
-fn told(number: u8, index: u32, field: u8) -> Reply
-    ensures { result ≡ record { answer = refusal number; fault = record { index = index; field = field } } }
-{
-    Reply {
-        answer: octets::refused(number),
-        fault: Fault { index, field },
-    }
+    Ok(())
 }
 
 // Whether octets are exactly one A6 record in order (T-06).
@@ -103,9 +156,7 @@ pub fn owner(table: &[u8], index: usize) -> &[u8]
 fn owner_part(table: &[u8], index: usize) -> Part
     ensures { result ≡ owner_part table.now index }
 {
-    let reply = check(table);
-    let earned = reply.answer.number;
-    if earned != 0 {
+    if check(table).is_err() {
         return nowhere();
     }
     if inside::count(table) <= index {

@@ -4,10 +4,11 @@ use mathlib.Core.Path.{◌≡◌, ap, ◌∙◌, sym}
 use mathlib.Core.List.{List}
 use lib.ListN.{length}
 use native.Mathlib.Omega.{arith}
+use Rattle.octets.specs.declared.Refusal.TheVariants.{Length, Record, Repeat}
 use Rattle.plan.specs.Layout.{record_size, max_records, count_of, record_at}
 use Rattle.plan.specs.Check.{fault_of, first_fault}
 use Rattle.plan.proofs.OrderLaws.{no_fault, number_length, number_many, number_fault, number_repeat, number_none}
-use Rattle.plan.proofs.PlaceLaws.{fault_two, fault_three, fault_other, replied}
+use Rattle.plan.proofs.PlaceLaws.{fault_two, fault_three, judged_placeless, judged_placed, judged_order}
 use Rattle.plan.proofs.check.Goals.{After-first_repeat-j}
 use Rattle.plan.proofs.check.Goals as goal
 
@@ -22,17 +23,13 @@ sought c =
     (c.if-table-ne0.false, omega (arith, n, c.if-n-gt-MAX_RECORDS.false), omega (arith, n, f, c.if-found-n.false), n)
 
 pub returns-then-table-ne0 : goal.returns-then-table-ne0
-returns-then-table-ne0 c =
-    let t = c.args.table.now in
-    let e = number_length t c.if-table-ne0.true in
-    c.told.ensures ∙ replied t 1 0 0 e (fault_other t (λ h. omega arith) (λ h. omega arith))
+returns-then-table-ne0 c = let t = c.args.table.now in judged_placeless t Length _ c.from.ensures (number_length t c.if-table-ne0.true) (λ h. omega arith) (λ h. omega arith)
 
 pub returns-then-n-gt-MAX_RECORDS : goal.returns-then-n-gt-MAX_RECORDS
 returns-then-n-gt-MAX_RECORDS c =
     let t = c.args.table.now in
     let n = c.count-n.ensures in
-    let e = number_many t c.if-table-ne0.false (omega arith) in
-    c.told-then-n-gt-MAX_RECORDS.ensures ∙ replied t 1 0 0 e (fault_other t (λ h. omega arith) (λ h. omega arith))
+    judged_placeless t Length _ c.from-then-n-gt-MAX_RECORDS.ensures (number_many t c.if-table-ne0.false (omega arith)) (λ h. omega arith) (λ h. omega arith)
 
 pub first_fault-found-requires : goal.first_fault-found-requires
 first_fault-found-requires c = omega (arith, c.count-n.ensures, c.if-n-gt-MAX_RECORDS.false)
@@ -45,7 +42,7 @@ returns-then-found-n c =
     let i = p.0 in
     let f = p.1 (omega (arith, n, c.if-found-n.true)) in
     let e = number_fault t c.if-table-ne0.false (omega (arith, n, c.if-n-gt-MAX_RECORDS.false)) (omega (arith, n, i, c.if-found-n.true)) in
-    c.told-then-found-n.ensures ∙ replied t 2 _ _ e (fault_two t e ∙ λ j. record { index = sym i j; field = (ap (λ (k : ℕ). fault_of (record_at t k)) (sym i) ∙ sym f) j })
+    judged_placed t Record _ e (fault_two t e ∙ λ j. record { index = sym i j; field = (ap (λ (k : ℕ). fault_of (record_at t k)) (sym i) ∙ sym f) j })
 
 pub first_repeat-j-requires : goal.first_repeat-j-requires
 first_repeat-j-requires c =
@@ -58,11 +55,11 @@ returns-then-j-n c =
     let here = (goal.at.returns-then-j-n c).After-first_repeat-j in
     let w = sought here in
     let e = number_repeat (table here) w.0 w.1 w.2 (omega (arith, w.3, c.if-j-n.true, c.first_repeat-j.ensures)) in
-    c.told-then-j-n.ensures ∙ replied (table here) 3 _ 4 e (fault_three (table here) e ∙ λ j. record { index = sym c.first_repeat-j.ensures j; field = 4 })
+    judged_placed (table here) Repeat _ e (fault_three (table here) e ∙ λ j. record { index = sym c.first_repeat-j.ensures j; field = 4 })
 
 pub returns : goal.returns
 returns c =
     let here = (goal.at.returns c).After-first_repeat-j in
     let w = sought here in
     let e = number_none (table here) w.0 w.1 w.2 (omega (arith, w.3, c.if-j-n.false, c.first_repeat-j.ensures)) in
-    c.told-2.ensures ∙ replied (table here) 0 0 0 e (fault_other (table here) (λ h. omega arith) (λ h. omega arith))
+    judged_order (table here) e
