@@ -1,10 +1,10 @@
 -- Laws of one label: which test decides, and what holds where none does.
 use Prim.Native.Nat.{ℕ, zero, suc, ◌+◌, ◌-◌, ◌*◌, ◌%◌, ◌^◌, ◌≤◌, ◌<◌}
-use mathlib.Core.Path.{◌≡◌, refl, ap, ◌∙◌}
+use mathlib.Core.Path.{◌≡◌, refl, ap, ◌∙◌, sym}
 use mathlib.Core.Bool.{true, false, not, ◌&&◌}
 use mathlib.Core.List.{List}
 use lib.Dec.{ltb, eqb}
-use lib.ListN.{length, get_or, drop}
+use lib.ListN.{length, get_or, drop, length-drop}
 use lib.Seq.{get_or-drop}
 use native.Mathlib.Omega.{arith}
 use native.Mathlib.Nat.{add-zero}
@@ -15,7 +15,11 @@ use Rattle.octets.proofs.AnswerLaws.{earns_zero}
 use Rattle.octets.proofs.BoolLaws.{and_false}
 use Rattle.labels.specs.Reads.{Sound}
 use Rattle.labels.specs.declared.Step.{Step}
-use Rattle.labels.specs.Steps.{broken, step_at, step_for, step_of}
+use Rattle.labels.specs.Steps.{step_at, step_for, step_of}
+use Rattle.std.specs.Prelude.{Ok, Err}
+use Rattle.octets.specs.Refusals.{told}
+use Rattle.octets.specs.declared.Refusal.{Refusal}
+use Rattle.octets.specs.declared.Refusal.TheVariants.{Short, Malformed}
 
 pub is_ordinary : (x : ℕ) → x < 64 → is_label x ≡ true
 is_ordinary x h = rw (lt-ltb x 64 h)
@@ -91,21 +95,36 @@ module _ (used run : ℕ) (xs : List ℕ) where
   fault_none s k f o u r =
       rw (fault_of, ne_eqb (length xs) 0 (λ e. omega arith), k, le-ltb (length xs) (size_of xs) f, le-ltb 255 (used + size_of xs) o, u, le-ltb 256 (run_of run xs) r)
 
-  pub step_broken : {r : Step} (n : ℕ) → r ≡ broken (suc n) → fault_of used run xs ≡ suc n → r ≡ step_of used run xs
-  unfolding step_of
-  step_broken n e f = rw f e
+  pub step_short : fault_of used run xs ≡ 11 → Err Short ≡ step_of used run xs
+  unfolding step_of told
+  step_short f = rw f
+
+  pub step_malformed : fault_of used run xs ≡ 12 → Err Malformed ≡ step_of used run xs
+  unfolding step_of told
+  step_malformed f = rw f
 
   pub step_none : fault_of used run xs ≡ 0 → step_of used run xs ≡ step_at (used + size_of xs) (run_of run xs)
   unfolding step_of
   step_none e = rw e
 
-  pub step_number : (step_of used run xs).number ≡ fault_of used run xs
+  -- a step that is refused has the number of the fault, and one that is taken has none
+  pub step_refused : (e : Refusal) → Err e ≡ step_of used run xs → (n : ℕ) × (fault_of used run xs ≡ suc n) × (told (suc n) ≡ e)
   unfolding step_of
-  step_number = go (fault_of used run xs)
+  step_refused e h = go (fault_of used run xs) refl h
     where
-      go : (n : ℕ) → (step_for n used run xs).number ≡ n
-      go zero = refl
-      go (suc n) = refl
+      go : (n : ℕ) → fault_of used run xs ≡ n → Err e ≡ step_for n used run xs → (n : ℕ) × (fault_of used run xs ≡ suc n) × (told (suc n) ≡ e)
+      go zero f h = cc
+      go (suc n) f h = (n, f, cc)
+
+  pub step_taken : (t : Step) → Ok t ≡ step_of used run xs → (fault_of used run xs ≡ 0) × (t.end ≡ used + size_of xs) × (t.run ≡ run_of run xs)
+  unfolding step_of
+  step_taken t h = go (fault_of used run xs) refl h
+    where
+      go : (n : ℕ) → fault_of used run xs ≡ n → Ok t ≡ step_for n used run xs → (fault_of used run xs ≡ 0) × (t.end ≡ used + size_of xs) × (t.run ≡ run_of run xs)
+      go zero f h =
+          let e : ◌≡◌ {A = Step} t (record { end = used + size_of xs; run = run_of run xs }) = cc in
+          (f, ap (λ (u : Step). u.end) e, ap (λ (u : Step). u.run) e)
+      go (suc n) f h = cc
 
 pub fault_sound : (used run : ℕ) (xs : List ℕ) → fault_of used run xs ≡ 0 → Sound used run xs
 unfolding fault_of
@@ -148,5 +167,103 @@ module _ (s : List ℕ) (at : ℕ) where
       → v ≡ 0 → unused_clear (drop at s) ≡ true
   unused_none n i v q p w k = unused_at ∙ rw (q, ← p, ← w) (eq-eqb v 0 k)
 
-pub step_at_eq : (e f r q : ℕ) → e ≡ f → r ≡ q → step_at e r ≡ step_at f q
+step_at_eq : (e f r q : ℕ) → e ≡ f → r ≡ q → step_at e r ≡ step_at f q
 step_at_eq e f r q g h = rw (g, h)
+
+-- the label at a place, by its first octet
+module _ (s : List ℕ) (at run : ℕ) (some : at < length s) where
+  abbrev rest : List ℕ
+  rest = drop at s
+
+  -- there is an octet to read
+  opens : (0 < length rest) × (length rest ≡ length s - at) × (first_of rest ≡ get_or s at 0)
+  opens = let l = length-drop at s in (omega arith, l, first_at s at)
+
+  pub label_other : 64 ≤ get_or s at 0 → (get_or s at 0 ≡ 65 → ⊥) → Err Malformed ≡ step_of at run (drop at s)
+  label_other h k = let o = opens in step_malformed at run rest (fault_bad at run rest o.0 (is_other (first_of rest) (omega arith) (λ e. k (sym o.2 ∙ e))))
+
+  -- an ordinary label
+  module _ (x : ℕ) (e : x ≡ get_or s at 0) (h : x < 64) where
+    record Ordinary : Type 0 where
+      there : 0 < length rest
+      first : first_of rest < 64
+      kind : is_label (first_of rest) ≡ true
+      long : length rest ≡ length s - at
+      size : size_of rest ≡ 1 + x
+      next : run_of run rest ≡ 0
+
+    ordinary : Ordinary
+    ordinary =
+        let o = opens in
+        let f : first_of rest < 64 = omega arith in
+        let z = size_ordinary rest f in
+        record { there = o.0; first = f; kind = is_ordinary (first_of rest) f; long = o.1; size = omega arith; next = run_ordinary run rest f }
+
+    pub ordinary_short : length s < at + 1 + x → Err Short ≡ step_of at run (drop at s)
+    ordinary_short k = let o = ordinary in step_short at run rest (fault_beyond at run rest o.there o.kind (omega arith))
+
+    pub ordinary_long : at + 1 + x ≤ length s → 255 < at + 1 + x → Err Malformed ≡ step_of at run (drop at s)
+    ordinary_long k l = let o = ordinary in step_malformed at run rest (fault_over at run rest o.there o.kind (omega arith) (omega arith))
+
+    pub ordinary_taken : at + 1 + x ≤ length s → at + 1 + x ≤ 255 → step_at (at + 1 + x) 0 ≡ step_of at run (drop at s)
+    ordinary_taken k l =
+        let o = ordinary in
+        let n = fault_none at run rest o.there o.kind (omega arith) (omega arith) (plain_clear rest o.first) (omega arith) in
+        step_at_eq (at + 1 + x) (at + size_of rest) 0 (run_of run rest) (omega arith) (sym o.next) ∙ sym (step_none at run rest n)
+
+  -- a bit label
+  module _ (f : get_or s at 0 ≡ 65) where
+    first : first_of rest ≡ 65
+    first = opens.2 ∙ f
+
+    kind : is_label (first_of rest) ≡ true
+    kind = is_bits (first_of rest) first
+
+    pub bits_cut : length s ≤ at + 1 → Err Short ≡ step_of at run (drop at s)
+    bits_cut k = let o = opens in step_short at run rest (fault_beyond at run rest o.0 kind (omega (arith, size_bits rest first)))
+
+    -- so many bits in so many octets
+    module _ (n m : ℕ) (e : n ≡ count_for (get_or s (at + 1) 0)) (p : m ≡ octets_for n) where
+      record Bits : Type 0 where
+        there : 0 < length rest
+        long : length rest ≡ length s - at
+        count : count_of rest ≡ n
+        size : size_of rest ≡ 2 + m
+        next : run_of run rest ≡ run + n
+
+      bits : Bits
+      bits =
+          let o = opens in
+          let c : count_of rest ≡ n = count_at s at ∙ sym e in
+          record { there = o.0; long = o.1; count = c; size = size_bits rest first ∙ rw (c, p); next = run_bits_lem run rest first ∙ rw c }
+
+      pub bits_short : length s < at + 2 + m → Err Short ≡ step_of at run (drop at s)
+      bits_short k = let b = bits in step_short at run rest (fault_beyond at run rest b.there kind (omega arith))
+
+      pub bits_long : at + 2 + m ≤ length s → 255 < at + 2 + m → Err Malformed ≡ step_of at run (drop at s)
+      bits_long k l = let b = bits in step_malformed at run rest (fault_over at run rest b.there kind (omega arith) (omega arith))
+
+      -- it ends within the octets, and its last octet has unused bits of a value
+      module _ (k : at + 2 + m ≤ length s) (l : at + 2 + m ≤ 255) (v : ℕ) (w : v ≡ get_or s (at + 2 + m - 1) 0 % 2 ^ (m * 8 - n)) where
+        within : (size_of rest ≤ length rest) × (at + size_of rest ≤ 255)
+        within = let b = bits in (omega arith, omega arith)
+
+        unused : v ≡ get_or s (at + (1 + octets_for n)) 0 % 2 ^ (octets_for n * 8 - n)
+        unused = let q : at + 2 + m - 1 ≡ at + (1 + m) = omega arith in w ∙ rw (q, p)
+
+        clear : v ≡ 0 → (eqb (first_of rest) 65 && not (unused_clear rest)) ≡ false
+        clear z = bits_clear rest (unused_none s at n (at + (1 + octets_for n)) v bits.count refl unused z)
+
+        pub bits_unused : (v ≡ 0 → ⊥) → Err Malformed ≡ step_of at run (drop at s)
+        bits_unused z =
+            let b = bits in
+            step_malformed at run rest (fault_unused at run rest b.there kind within.0 within.1 (bits_unclear rest first (unused_set s at n (at + (1 + octets_for n)) v b.count refl unused z)))
+
+        pub bits_many : v ≡ 0 → 256 < run + n → Err Malformed ≡ step_of at run (drop at s)
+        bits_many z u = let b = bits in step_malformed at run rest (fault_run at run rest b.there kind within.0 within.1 (clear z) (omega arith))
+
+        pub bits_taken : v ≡ 0 → run + n ≤ 256 → step_at (at + 2 + m) (run + n) ≡ step_of at run (drop at s)
+        bits_taken z u =
+            let b = bits in
+            let g = fault_none at run rest b.there kind within.0 within.1 (clear z) (omega arith) in
+            step_at_eq (at + 2 + m) (at + size_of rest) (run + n) (run_of run rest) (omega arith) (sym b.next) ∙ sym (step_none at run rest g)

@@ -1,20 +1,25 @@
 -- Laws of the scan: one for each thing that a turn can meet.
-use Prim.Native.Nat.{ℕ, zero, suc, ◌+◌, ◌-◌, ◌<◌}
+use Prim.Native.Nat.{ℕ, zero, suc, ◌+◌, ◌-◌, ◌≤◌, ◌<◌}
 use mathlib.Core.Path.{◌≡◌, refl, ap, ◌∙◌, sym}
 use mathlib.Core.Bool.{Bool, true, false}
 use mathlib.Core.List.{List, [], ◌∷◌}
 use lib.Dec.{ltb, eqb}
-use lib.ListN.{length, take, drop}
+use lib.ListN.{length, get_or, take, drop, length-drop}
 use lib.Seq.{drop-drop}
 use native.Mathlib.Omega.{arith}
 use borrow.Author.Tests.{lt-ltb, eq-eqb, ne_eqb, eqb-true, eqb-false}
 use Rattle.bits.specs.Bits.{octets_for, unpack}
-use Rattle.octets.proofs.BoolLaws.{and_true, and_false}
+use Rattle.octets.proofs.BoolLaws.{and_true, and_false, or_true}
 use Rattle.labels.specs.Labels.{ordinary, bits, first_of, count_of, size_of, run_of, label_of, fault_of}
 use Rattle.labels.specs.Scan.{Reading, refused, done, with, scan_from}
-use Rattle.labels.specs.Answers.{unread, found, scanned}
-use Rattle.labels.specs.Steps.{finish, still_apart}
-use Rattle.labels.proofs.LabelLaws.{count_least, run_bits_lem, size_ordinary}
+use Rattle.std.specs.Prelude.{Ok, Err}
+use Rattle.labels.specs.declared.Step.{Step}
+use Rattle.octets.specs.Refusals.{told}
+use Rattle.octets.specs.declared.Refusal.{Refusal}
+use Rattle.octets.specs.declared.Refusal.TheVariants.{Short}
+use Rattle.labels.specs.Answers.{found, scanned}
+use Rattle.labels.specs.Steps.{step_of, finish, still_apart}
+use Rattle.labels.proofs.LabelLaws.{count_least, run_bits_lem, size_ordinary, step_refused, step_taken, fault_sound, first_at}
 
 pub scan_skip : (used run k : ℕ) (xs : List ℕ) → scan_from used run k xs ≡ scan_from used run 0 (drop k xs)
 unfolding scan_from
@@ -67,24 +72,34 @@ unfolding finish scanned
 finish_all (refused n) = refl
 finish_all (done ls used) = refl
 
+-- the flag's three ways
+module _ (ok : Bool) (run next : ℕ) where
+  apart_first : run ≡ 0 → still_apart ok run next ≡ ok
+  unfolding still_apart
+  apart_first h = rw (still_apart, h) (and_true ok)
+
+  apart_other : next ≡ 0 → still_apart ok run next ≡ ok
+  unfolding still_apart
+  apart_other h = rw (still_apart, h, or_true (eqb run 0)) (and_true ok)
+
+  apart_broken : (run ≡ 0 → ⊥) → (next ≡ 0 → ⊥) → still_apart ok run next ≡ false
+  unfolding still_apart
+  apart_broken h k = rw (still_apart, ne_eqb run 0 h, ne_eqb next 0 k) (and_false ok)
+
 -- the answer's flag follows the runs
 pub finish_bits : (ok : Bool) (run next : ℕ) (b : List ℕ) (r : Reading) → 0 < next
     → finish ok (ltb 0 run) (with (bits b) r) ≡ finish (still_apart ok run next) (ltb 0 next) r
-unfolding finish with still_apart
+unfolding finish with
 finish_bits ok run next b (refused n) h = refl
-finish_bits ok zero next b (done ls used) h = rw (lt-ltb 0 next h)
+finish_bits ok zero next b (done ls used) h = rw (lt-ltb 0 next h, apart_first ok 0 next refl)
 finish_bits ok (suc run) next b (done ls used) h =
-    rw (lt-ltb 0 (suc run) (omega arith), lt-ltb 0 next h, ne_eqb (suc run) 0 (λ e. omega arith), still_apart, ne_eqb next 0 (λ e. omega arith), and_false ok)
+    rw (lt-ltb 0 (suc run) (omega arith), apart_broken ok (suc run) next (λ e. omega arith) (λ e. omega arith), and_false ok)
 
 pub finish_ordinary : (ok : Bool) (run : ℕ) (l : List ℕ) (r : Reading)
     → finish ok (ltb 0 run) (with (ordinary l) r) ≡ finish (still_apart ok run 0) false r
-unfolding finish with still_apart
+unfolding finish with
 finish_ordinary ok run l (refused n) = refl
-finish_ordinary ok run l (done ls used) = rw (go (eqb run 0) refl)
-  where
-    go : (t : Bool) → eqb run 0 ≡ t → still_apart ok run 0 ≡ ok
-    go true e = rw (still_apart, e)
-    go false e = rw (still_apart, e)
+finish_ordinary ok run l (done ls used) = rw (apart_other ok run 0 refl)
 
 pub label_bits : (xs : List ℕ) → first_of xs ≡ 65 → label_of xs ≡ bits (unpack (count_of xs) (drop 2 xs))
 unfolding label_of
@@ -114,17 +129,13 @@ finish_more ok run xs r = go (eqb (first_of xs) 65) refl
 
 -- what a turn of the scan makes of what is left
 module _ (used run : ℕ) (ok : Bool) (xs : List ℕ) where
-  pub turn_missing : length xs ≡ 0 → finish ok (ltb 0 run) (scan_from used run 0 xs) ≡ unread 11
-  unfolding finish
+  pub turn_missing : length xs ≡ 0 → finish ok (ltb 0 run) (scan_from used run 0 xs) ≡ Err Short
+  unfolding finish told
   turn_missing h = rw (scan_missing used run xs h)
 
-  pub turn_refused : 0 < length xs → (fault_of used run xs ≡ 0 → ⊥) → finish ok (ltb 0 run) (scan_from used run 0 xs) ≡ unread (fault_of used run xs)
+  pub turn_refused : (e : Refusal) → 0 < length xs → Err e ≡ step_of used run xs → finish ok (ltb 0 run) (scan_from used run 0 xs) ≡ Err e
   unfolding finish
-  turn_refused h k = go (fault_of used run xs) refl
-    where
-      go : (n : ℕ) → fault_of used run xs ≡ n → finish ok (ltb 0 run) (scan_from used run 0 xs) ≡ unread n
-      go zero e = absurd (k e)
-      go (suc n) e = rw (scan_fault used run xs n h e)
+  turn_refused e h k = let r = step_refused used run xs e k in rw (scan_fault used run xs r.0 h r.1, r.2)
 
   pub turn_end : 0 < length xs → fault_of used run xs ≡ 0 → first_of xs ≡ 0 → finish ok (ltb 0 run) (scan_from used run 0 xs) ≡ found (used + size_of xs) ok
   unfolding finish
@@ -137,26 +148,24 @@ module _ (used run : ℕ) (ok : Bool) (xs : List ℕ) where
       ≡ finish (still_apart ok run (run_of run xs)) (ltb 0 (run_of run xs)) (scan_from (used + size_of xs) (run_of run xs) 0 (drop (size_of xs) xs))
   turn_more h e f = rw (scan_more used run xs h e f) (finish_more ok run xs (scan_from (used + size_of xs) (run_of run xs) 0 (drop (size_of xs) xs)))
 
--- the flag's three ways
-module _ (ok : Bool) (run next : ℕ) where
-  pub apart_first : run ≡ 0 → still_apart ok run next ≡ ok
-  unfolding still_apart
-  apart_first h = rw (still_apart, eq-eqb run 0 h)
+-- a turn whose label is taken, in the figures of the code
+module _ (s : List ℕ) (at run : ℕ) (some : at < length s) (t : Step) (e : Ok t ≡ step_of at run (drop at s)) where
+  taken : (fault_of at run (drop at s) ≡ 0) × (t.end ≡ at + size_of (drop at s)) × (t.run ≡ run_of run (drop at s))
+  taken = step_taken at run (drop at s) t e
 
-  pub apart_other : next ≡ 0 → still_apart ok run next ≡ ok
-  unfolding still_apart
-  apart_other h = rw h (go (eqb run 0))
-    where
-      go : (t : Bool) → (elim t as (λ x. Bool) [ true ↦ ok | false ↦ ok ]) ≡ ok
-      go true = refl
-      go false = refl
+  there : 0 < length (drop at s)
+  there = let l = length-drop at s in omega arith
 
-  pub apart_broken : (run ≡ 0 → ⊥) → (next ≡ 0 → ⊥) → still_apart ok run next ≡ false
-  unfolding still_apart
-  apart_broken h k = rw (still_apart, ne_eqb run 0 h, ne_eqb next 0 k)
+  pub turn_within : (at < t.end) × (t.end ≤ length s) × (t.end ≤ 255) × (t.run ≤ 256)
+  turn_within =
+      let l = length-drop at s in
+      let o = fault_sound at run (drop at s) taken.0 in
+      let q = size_least (drop at s) in
+      (omega (arith, taken.1), omega (arith, taken.1, o.fits), omega (arith, taken.1, o.total), omega (arith, taken.2, o.short))
 
--- a turn that goes on, in the figures of the code
-pub turn_on : (s : List ℕ) (at run end next : ℕ) (ok v : Bool) → 0 < length (drop at s) → fault_of at run (drop at s) ≡ 0 → (first_of (drop at s) ≡ 0 → ⊥)
-    → end ≡ at + size_of (drop at s) → next ≡ run_of run (drop at s) → v ≡ still_apart ok run next
-    → finish v (ltb 0 next) (scan_from end next 0 (drop end s)) ≡ finish ok (ltb 0 run) (scan_from at run 0 (drop at s))
-turn_on s at run end next ok v h z f p q w = rw (w, p, q, ← drop-drop (size_of (drop at s)) at s) (sym (turn_more at run ok (drop at s) h z f))
+  pub turn_ended : (ok : Bool) → get_or s at 0 ≡ 0 → found t.end ok ≡ finish ok (ltb 0 run) (scan_from at run 0 (drop at s))
+  turn_ended ok z = rw taken.1 (sym (turn_end at run ok (drop at s) there taken.0 (first_at s at ∙ z)))
+
+  pub turn_on : (ok v : Bool) → v ≡ still_apart ok run t.run → (get_or s at 0 ≡ 0 → ⊥)
+      → finish v (ltb 0 t.run) (scan_from t.end t.run 0 (drop t.end s)) ≡ finish ok (ltb 0 run) (scan_from at run 0 (drop at s))
+  turn_on ok v w f = rw (w, taken.1, taken.2, ← drop-drop (size_of (drop at s)) at s) (sym (turn_more at run ok (drop at s) there taken.0 (λ z. f (sym (first_at s at) ∙ z))))

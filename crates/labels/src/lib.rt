@@ -3,148 +3,96 @@
 
 ghost use Rattle.std.specs.Prelude.{◌≡◌, ◌≤◌, ◌<◌, length, get_or, drop};
 ghost use Rattle.labels.specs.Scan.{scan_of};
-ghost use Rattle.labels.specs.Answers.{scanned, unread};
-ghost use Rattle.labels.specs.Steps.{step_of, broken, still_apart};
+ghost use Rattle.labels.specs.Answers.{scanned};
+ghost use Rattle.labels.specs.Steps.{step_of};
 
-// What a scan finds: 0, 11 or 12 (01, What comes back); on 0 the octets that the name takes, and whether it is in standard form already.
+use octets::Refusal;
+
+// What a scan finds of a name (01, What comes back): the octets that it takes, and whether it is in standard form already.
 #[derive(Clone, Copy)]
 pub struct Scanned {
-    pub number: u8,
     pub used: usize,
     pub standard: bool,
 }
 
-// The name at the front of s, read from left to right; more octets may follow it.
-pub fn scan(s: &[u8]) -> Scanned
+// The name at the front of s, read from left to right; more octets may follow it. It is refused as `Short` or `Malformed`.
+pub fn scan(s: &[u8]) -> Result<Scanned, Refusal>
     ensures { result ≡ scanned (scan_of s.now) }
 {
-    let n = s.len();
     let mut at: usize = 0;
     let mut run: usize = 0;
-    let mut ok = true;
-    while at < n {
-        let t = label(s, at, run);
-        let number = t.number;
-        let end = t.end;
-        let next = t.run;
-        if number != 0 {
-            return refused(number);
-        }
+    let mut standard = true;
+    while at < s.len() {
+        let step = label(s, at, run)?;
         if s[at] == 0 {
-            return Scanned {
-                number: 0,
-                used: end,
-                standard: ok,
-            };
+            return Ok(Scanned {
+                used: step.end,
+                standard,
+            });
         }
-        ok = still_apart(ok, run, next);
-        at = end;
-        run = next;
+        // In standard form no two bit labels are adjacent.
+        standard = standard && (run == 0 || step.run == 0);
+        at = step.end;
+        run = step.run;
     }
-    refused(11)
+    Err(Refusal::Short)
 }
 
-// What one label gives: its number, where it ends, and the bits of its run so far.
+// What one label gives: where it ends, and the bits of its run so far.
 #[derive(Clone, Copy)]
-pub struct Step {
-    pub number: u8,
-    pub end: usize,
-    pub run: usize,
-}
-
-// A reading that is refused.
-fn refused(k: u8) -> Scanned
-    ensures { result ≡ unread k }
-{
-    Scanned {
-        number: k,
-        used: 0,
-        standard: false,
-    }
-}
-
-// Whether no two bit labels are adjacent up to this label, from what held before it.
-fn still_apart(ok: bool, run: usize, next: usize) -> bool
-    ensures { result ≡ still_apart ok run next }
-{
-    if run == 0 {
-        return ok;
-    }
-    if next == 0 {
-        return ok;
-    }
-    false
-}
-
-// A label that is refused.
-fn broken_label(k: u8) -> Step
-    ensures { result ≡ broken k }
-{
-    Step {
-        number: k,
-        end: 0,
-        run: 0,
-    }
+struct Step {
+    end: usize,
+    run: usize,
 }
 
 // The label at `at`, after `run` bits of a run: the tests of 01 (What comes back) in their order.
-fn label(s: &[u8], at: usize, run: usize) -> Step
+fn label(s: &[u8], at: usize, run: usize) -> Result<Step, Refusal>
     requires { (at < length s.now) × (at ≤ 255) × (run ≤ 256) }
     ensures { result ≡ step_of at run (drop at s.now) }
 {
-    let n = s.len();
-    let x = s[at];
-    if x < 64 {
-        let e = at + 1 + octets::wide(x);
-        if n < e {
-            return broken_label(11);
+    match s[at] {
+        x @ 0..64 => {
+            let end = at + 1 + usize::from(x);
+            if s.len() < end {
+                return Err(Refusal::Short);
+            }
+            if 255 < end {
+                return Err(Refusal::Malformed);
+            }
+            Ok(Step { end, run: 0 })
         }
-        if 255 < e {
-            return broken_label(12);
-        }
-        return Step {
-            number: 0,
-            end: e,
-            run: 0,
-        };
+        65 => bit_label(s, at, run),
+        _ => Err(Refusal::Malformed),
     }
-    if x != 65 {
-        return broken_label(12);
-    }
-    bit_label(s, at, run)
 }
 
 // The same for a label that begins with 65.
-fn bit_label(s: &[u8], at: usize, run: usize) -> Step
+fn bit_label(s: &[u8], at: usize, run: usize) -> Result<Step, Refusal>
     requires { (at < length s.now) × (at ≤ 255) × (run ≤ 256) × (get_or s.now at 0 ≡ 65) }
     ensures { result ≡ step_of at run (drop at s.now) }
 {
-    let n = s.len();
-    let a = at + 1;
-    if n <= a {
-        return broken_label(11);
+    if s.len() <= at + 1 {
+        return Err(Refusal::Short);
     }
-    let bits = inside::count(s[a]);
-    let octets = (bits + 7) / 8;
-    let e = at + 2 + octets;
-    if n < e {
-        return broken_label(11);
+    let bits = inside::count(s[at + 1]);
+    let octets = bits.div_ceil(8);
+    let end = at + 2 + octets;
+    if s.len() < end {
+        return Err(Refusal::Short);
     }
-    if 255 < e {
-        return broken_label(12);
+    if 255 < end {
+        return Err(Refusal::Malformed);
     }
-    if bits::inside::low(s[e - 1], octets * 8 - bits) != 0 {
-        return broken_label(12);
+    if bits::inside::low(s[end - 1], octets * 8 - bits) != 0 {
+        return Err(Refusal::Malformed);
     }
-    let next = run + bits;
-    if 256 < next {
-        return broken_label(12);
+    if 256 < run + bits {
+        return Err(Refusal::Malformed);
     }
-    Step {
-        number: 0,
-        end: e,
-        run: next,
-    }
+    Ok(Step {
+        end,
+        run: run + bits,
+    })
 }
 
 pub mod inside;

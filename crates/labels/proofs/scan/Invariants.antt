@@ -10,7 +10,7 @@ use Rattle.labels.proofs.scan.Given as goal
 
 abbrev pub invariant-loop-at : goal.invariant-loop-at
 invariant-loop-at l =
-    (l.at ≤ l.n) × (l.n ≡ length l.s) × (l.at ≤ 255) × (l.run ≤ 256) × (finish l.ok (ltb 0 l.run) (scan_from l.at l.run 0 (drop l.at l.s)) ≡ scanned (scan_of l.s))
+    (l.at ≤ length l.s) × (l.at ≤ 255) × (l.run ≤ 256) × (finish l.standard (ltb 0 l.run) (scan_from l.at l.run 0 (drop l.at l.s)) ≡ scanned (scan_of l.s))
 
 abbrev pub decreases-loop-at : goal.decreases-loop-at
-decreases-loop-at l = l.n - l.at
+decreases-loop-at l = length l.s - l.at
