@@ -2,7 +2,7 @@
 use Prim.Native.Nat.{ℕ, ◌-◌}
 use mathlib.Core.Path.{◌≡◌, refl, ap, ◌∙◌, sym}
 use mathlib.Core.Bool.{true, false, not}
-use mathlib.Core.List.{List, [], ◌++◌}
+use mathlib.Core.List.{List, ◌++◌}
 use lib.ListN.{length, drop}
 use lib.Seq.{take_all, paste}
 use native.Mathlib.Omega.{arith}
@@ -12,47 +12,48 @@ use borrow.Author.Tests.{eq-eqb, ne_eqb, eqb-true, not-false}
 use Rattle.octets.specs.Octets.{blank, Small}
 use Rattle.labels.specs.Scan.{Reading, refused, done, scan_of, apart, labels_of, fills, well_formed, scan_from}
 use Rattle.names.specs.Standard.{standard_of}
-use Rattle.labels.specs.Answers.{scanned}
-use Rattle.names.specs.Answers.{standard_number}
-use Rattle.octets.proofs.OctetLaws.{nil_of_length, drop_blank}
+use Rattle.octets.specs.Refusals.{told, number_of, answered}
+use Rattle.octets.proofs.RefusalLaws.{code_some}
+use Rattle.labels.specs.Answers.{scanned, used_by, standard_by}
+use Rattle.octets.specs.declared.Refusal.TheVariants.{Given, Output}
+use Rattle.octets.specs.Answers.{answering, answer_by, out_by}
+use Rattle.names.specs.Answers.{standard_number, standard_answer, standard_out}
+use Rattle.std.specs.Prelude.{Err}
+use Rattle.octets.proofs.OctetLaws.{drop_blank}
 use Rattle.octets.proofs.AnswerLaws.{earns_zero}
 use Rattle.names.proofs.WriteLaws.{standard_apart}
 
 -- what a scan says of a given name
 module _ (name : List ℕ) where
-  pub form_number : ((scanned (scan_of name)).number ≡ 0 → ⊥) → well_formed name ≡ false
+  pub form_number : (number_of (scanned (scan_of name)) ≡ 0 → ⊥) → well_formed name ≡ false
   unfolding scanned well_formed fills
   form_number h = go (scan_of name) h
     where
-      go : (r : Reading) → ((scanned r).number ≡ 0 → ⊥) → fills (length name) r ≡ false
+      go : (r : Reading) → (number_of (scanned r) ≡ 0 → ⊥) → fills (length name) r ≡ false
       go (refused n) h = refl
       go (done ls u) h = absurd (h refl)
 
-  pub form_used : ((scanned (scan_of name)).used ≡ length name → ⊥) → well_formed name ≡ false
+  pub form_used : (used_by (scanned (scan_of name)) ≡ length name → ⊥) → well_formed name ≡ false
   unfolding scanned well_formed fills
   form_used h = go (scan_of name) h
     where
-      go : (r : Reading) → ((scanned r).used ≡ length name → ⊥) → fills (length name) r ≡ false
+      go : (r : Reading) → (used_by (scanned r) ≡ length name → ⊥) → fills (length name) r ≡ false
       go (refused n) h = refl
       go (done ls u) h = ne_eqb u (length name) h
 
-  pub form_good : (scanned (scan_of name)).number ≡ 0 → (scanned (scan_of name)).used ≡ length name → well_formed name ≡ true
+  pub form_good : number_of (scanned (scan_of name)) ≡ 0 → used_by (scanned (scan_of name)) ≡ length name → well_formed name ≡ true
   unfolding scanned well_formed scan_of scan_from fills
   form_good h k = go (scan_of name) refl h k
     where
-      go : (r : Reading) → scan_of name ≡ r → (scanned r).number ≡ 0 → (scanned r).used ≡ length name → fills (length name) r ≡ true
-      go (refused n) e h k =
-          let z : name ≡ [] = nil_of_length name (sym k) in
-          let y : refused 11 ≡ refused n = ap scan_of (sym z) ∙ e in
-          let x : ◌≡◌ {A = ℕ} 11 n = cc in
-          let w : ⊥ = omega arith in absurd w
+      go : (r : Reading) → scan_of name ≡ r → number_of (scanned r) ≡ 0 → used_by (scanned r) ≡ length name → fills (length name) r ≡ true
+      go (refused n) e h k = absurd (code_some (told n) h)
       go (done ls u) e h k = eq-eqb u (length name) k
 
-  form_standard : (scanned (scan_of name)).standard ≡ true → apart false (labels_of (scan_of name)) ≡ true
+  form_standard : standard_by (scanned (scan_of name)) ≡ true → apart false (labels_of (scan_of name)) ≡ true
   unfolding scanned labels_of
   form_standard h = go (scan_of name) h
     where
-      go : (r : Reading) → (scanned r).standard ≡ true → apart false (labels_of r) ≡ true
+      go : (r : Reading) → standard_by (scanned r) ≡ true → apart false (labels_of r) ≡ true
       go (refused n) h = let z : ◌≡◌ {A = ℕ} 0 1 = cc in let w : ⊥ = omega arith in absurd w
       go (done ls u) h = h
 
@@ -78,12 +79,39 @@ module _ (name : List ℕ) (room : ℕ) where
       let t2 = earns_zero (not (eqb room 255)) 4 _ t1.1 in
       (not-false (well_formed name) t1.0, eqb-true room 255 (not-false (eqb room 255) t2.0))
 
+-- what is answered with an output of zeros, where the name is malformed or the output is not of 255 octets
+module _ (name : List ℕ) (room : ℕ) where
+  pub given_answer : well_formed name ≡ false → answered (Err Given) ≡ standard_answer name room
+  unfolding answer_by
+  given_answer h = rw (number_malformed name room h)
+
+  pub given_out : well_formed name ≡ false → blank room ≡ standard_out name room
+  unfolding out_by
+  given_out h = rw (number_malformed name room h)
+
+  pub output_answer : well_formed name ≡ true → (room ≡ 255 → ⊥) → answered (Err Output) ≡ standard_answer name room
+  unfolding answer_by
+  output_answer h k = rw (number_room name room h k)
+
+  pub output_out : well_formed name ≡ true → (room ≡ 255 → ⊥) → blank room ≡ standard_out name room
+  unfolding out_by
+  output_out h k = rw (number_room name room h k)
+
+  -- and what is answered where the standard form was put into the output
+  pub done_is : well_formed name ≡ true → room ≡ 255 → answering (length (standard_of name)) 0 ≡ standard_answer name room
+  unfolding answer_by
+  done_is h k = rw (number_done name room h k)
+
+  pub done_puts : well_formed name ≡ true → room ≡ 255 → standard_of name ++ blank (255 - length (standard_of name)) ≡ standard_out name room
+  unfolding out_by
+  done_puts h k = rw (number_done name room h k, k)
+
 -- a copy to the front of zeros
 copied : (name out : List ℕ) (n room : ℕ) → n ≡ length name → out ≡ paste (blank room) 0 (drop 0 name) n → out ≡ name ++ blank (room - length name)
 copied name out n room e p = p ∙ rw (zero-add n, e, take_all (length name) name (omega arith), drop_blank (length name) room)
 
 -- the copy of a name that a scan finds in standard form
-pub standard_copied : (name out : List ℕ) (room : ℕ) → Small name → well_formed name ≡ true → (scanned (scan_of name)).standard ≡ true → out ≡ paste (blank room) 0 (drop 0 name) (length name)
+pub standard_copied : (name out : List ℕ) (room : ℕ) → Small name → well_formed name ≡ true → standard_by (scanned (scan_of name)) ≡ true → out ≡ paste (blank room) 0 (drop 0 name) (length name)
     → (out ≡ standard_of name ++ blank (room - length (standard_of name))) × (length name ≡ length (standard_of name))
 standard_copied name out room s w t p =
     let e : standard_of name ≡ name = standard_apart name s w (form_standard name t) in

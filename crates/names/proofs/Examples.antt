@@ -4,6 +4,9 @@ use mathlib.Core.Path.{◌≡◌, refl}
 use mathlib.Core.Bool.{Bool, true, false}
 use mathlib.Core.List.{List, [], ◌∷◌, ◌++◌, map}
 use lib.ListN.{replicate}
+use Rattle.std.specs.Prelude.{eqb, Result, Ok, Err}
+use Rattle.octets.specs.Refusals.{told}
+use Rattle.octets.specs.declared.Refusal.{Refusal}
 use Rattle.labels.specs.declared.Scanned.{Scanned}
 use Rattle.labels.specs.Scan.{scan_of}
 use Rattle.labels.specs.Answers.{scanned}
@@ -73,14 +76,14 @@ cases =
     ∷ record { octets = ordinary_label 63 ++ ordinary_label 63 ++ ordinary_label 63 ++ 63 ∷ []; number = 11; used = 0; standard = false }
     ∷ []
 
-given : Case → Scanned
+given : Case → Result Scanned Refusal
 given c = scanned (scan_of c.octets)
 
-expected : Case → Scanned
-expected c = record { number = c.number; used = c.used; standard = c.standard }
+expected : Case → Result Scanned Refusal
+expected c = elim (eqb c.number 0) [ true ↦ Ok (record { used = c.used; standard = c.standard }) | false ↦ Err (told c.number) ]
 
 scans : map given cases ≡ map expected cases
-unfolding names_compute given expected cases
+unfolding names_compute told given expected cases
 scans = refl
 
 -- standard forms: 255 and 1 bits make 256, whose count octet is 0; a run stays apart from the next; bits that are no whole octets

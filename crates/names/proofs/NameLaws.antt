@@ -8,7 +8,13 @@ use lib.Seq.{take-append_seam}
 use native.Mathlib.Omega.{arith}
 use Rattle.octets.specs.Octets.{blank, Small}
 use Rattle.octets.specs.declared.Answer.{Answer}
-use Rattle.octets.specs.Answers.{answer_by, out_by}
+use Rattle.octets.specs.declared.Done.{Done}
+use Rattle.octets.specs.declared.Refusal.{Refusal}
+use Rattle.octets.specs.Answers.{answering, refusal, answer_by, out_by}
+use Rattle.octets.specs.Refusals.{code_of, answered}
+use Rattle.octets.proofs.RefusalLaws.{code_some}
+use Rattle.std.specs.Prelude.{Some, None, Result, Ok, Err}
+use Rattle.std.specs.Result.{result_ok}
 use Rattle.octets.proofs.OctetLaws.{nil_of_length}
 use Rattle.octets.proofs.BoolLaws.{clash, refuted}
 use Rattle.labels.specs.Scan.{well_formed, fills, scan_of, scan_from}
@@ -53,6 +59,36 @@ held_is name out a p q = rw (p, q) (go (well_formed name) refl)
     go : (t : Bool) → well_formed name ≡ t → ◌≡◌ {A = Name} (record { octets = standard_out name 255; length = (standard_answer name 255).count }) (held_of name)
     go true w = rw (number_done name 255 w refl, held_formed name w)
     go false w = rw (number_malformed name 255 w, held_malformed name w)
+
+-- an answer that is no refusal is of a well-formed name, and one that is a refusal of a malformed name
+module _ (name : List ℕ) where
+  pub answer_done : (r : Result Done Refusal) (d : Done) → Some d ≡ result_ok r → answered r ≡ standard_answer name 255
+      → (true ≡ well_formed name) × (answering d.count d.work ≡ standard_answer name 255)
+  unfolding answer_by
+  answer_done (Err e) d h a = cc
+  answer_done (Ok x) d h a = go (well_formed name) refl
+    where
+      q : x ≡ d
+      q = cc
+
+      go : (t : Bool) → well_formed name ≡ t → (true ≡ well_formed name) × (answering d.count d.work ≡ standard_answer name 255)
+      go true w = (sym w, rw q at a)
+      go false w =
+          let k = number_malformed name 255 w in
+          let f : answering x.count x.work ≡ refusal 4 = rw k at a in
+          let z : ⊥ = omega (arith, ap (λ (b : Answer). b.number) f) in absurd z
+
+  pub answer_refused : (r : Result Done Refusal) → None ≡ result_ok r → answered r ≡ standard_answer name 255 → well_formed name ≡ false
+  unfolding answer_by
+  answer_refused (Ok x) h a = cc
+  answer_refused (Err e) h a = go (well_formed name) refl
+    where
+      go : (t : Bool) → well_formed name ≡ t → well_formed name ≡ false
+      go false w = w
+      go true w =
+          let k = number_done name 255 w refl in
+          let f : refusal (code_of e) ≡ answering (length (standard_of name)) 0 = rw k at a in
+          absurd (code_some e (ap (λ (b : Answer). b.number) f))
 
 -- what the value tells of the name
 module _ (name : List ℕ) where

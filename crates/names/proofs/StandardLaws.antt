@@ -8,7 +8,7 @@ use native.Mathlib.Omega.{arith}
 use Rattle.octets.specs.Octets.{same, Small}
 use Rattle.labels.specs.Labels.{Label, ordinary, bits}
 use Rattle.labels.specs.Scan.{Reading, refused, done, scan_of, apart, labels_of, fills, well_formed}
-use Rattle.labels.specs.Answers.{scanned}
+use Rattle.labels.specs.Answers.{scanned, standard_by}
 use Rattle.names.specs.Standard.{units, units_of, bit_label, encode_from, encode, standard_of, key_of, Same, same_name, in_standard_form}
 use Rattle.names.proofs.Written.{write_label, written}
 use Rattle.names.proofs.Merged.{AllFit}
@@ -89,7 +89,7 @@ unfolding in_standard_form
 malformed_not xs w = rw w
 
 -- Theorem: what a scan says of a name that fills its octets: the flag is set exactly when the name is in standard form
-pub scan_standard : (xs : List ℕ) → Small xs → well_formed xs ≡ true → (scanned (scan_of xs)).standard ≡ in_standard_form xs
+pub scan_standard : (xs : List ℕ) → Small xs → well_formed xs ≡ true → standard_by (scanned (scan_of xs)) ≡ in_standard_form xs
 unfolding scanned labels_of fills
 scan_standard xs s w = go (scan_of xs) refl
   where
@@ -101,7 +101,7 @@ scan_standard xs s w = go (scan_of xs) refl
         other true f = let a = apart_standard xs s w (in_standard xs f).1 in cc
         other false f = sym f
 
-    go : (r : Reading) → scan_of xs ≡ r → (scanned (scan_of xs)).standard ≡ in_standard_form xs
+    go : (r : Reading) → scan_of xs ≡ r → standard_by (scanned (scan_of xs)) ≡ in_standard_form xs
     go (refused n) e = let z : false ≡ true = rw (e, fills) at (well_fills xs w) in let y : ◌≡◌ {A = ℕ} 0 1 = cc in let x : ⊥ = omega arith in absurd x
     go (done ls u) e = rw e (flag (apart false ls) (ap (λ (r : Reading). apart false (labels_of r)) e))
 

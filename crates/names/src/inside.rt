@@ -6,11 +6,11 @@ ghost use Rattle.labels.specs.Labels.{count_for};
 ghost use Rattle.labels.specs.Scan.{scan_of, well_formed};
 ghost use Rattle.names.specs.Standard.{standard_of, lower, same_name, in_standard_form};
 ghost use Rattle.names.specs.Keys.{key_octets, walked, Past};
-ghost use Rattle.labels.specs.Answers.{scanned};
+ghost use Rattle.labels.specs.Answers.{scanned, standard_by};
 
 // The standard form of a well-formed name over zeros, and its length; `standard` is what a scan says of the name.
 pub fn put_standard(name: &[u8], standard: bool, out: &mut [u8]) -> usize
-    requires { (well_formed name.now ≡ true) × (standard ≡ (scanned (scan_of name.now)).standard) × (out.old ≡ blank 255) }
+    requires { (well_formed name.now ≡ true) × (standard ≡ standard_by (scanned (scan_of name.now))) × (out.old ≡ blank 255) }
     ensures { (out.new ≡ standard_of name.now ++ blank (255 - length (standard_of name.now))) × (result ≡ length (standard_of name.now)) × (result ≤ 255) }
 {
     if standard {

@@ -1,15 +1,19 @@
 // Names: put in standard form, compared, held by value (01, Names).
 #![tactic(auto)]
 
-ghost use Rattle.std.specs.Prelude.{◌≡◌, true, ◌++◌, ◌+◌, ◌-◌, ◌*◌, ◌/◌, ◌%◌, ◌≤◌, ◌<◌, length, get_or};
+ghost use Rattle.std.specs.Prelude.{◌≡◌, true, false, ◌++◌, ◌+◌, ◌-◌, ◌*◌, ◌/◌, ◌%◌, ◌≤◌, ◌<◌, [], length, get_or, take, Ok, MatchOption, is_some};
 ghost use Rattle.octets.specs.Octets.{blank};
+ghost use Rattle.octets.specs.Refusals.{answered};
 ghost use Rattle.labels.specs.Scan.{scan_of, well_formed};
 ghost use Rattle.labels.specs.Answers.{scanned};
 ghost use Rattle.names.specs.Standard.{standard_of, in_standard_form};
-ghost use Rattle.names.specs.Name.{held_of};
-ghost use Rattle.names.specs.Answers.{standard_number, standard_answer, standard_out};
+ghost use Rattle.names.specs.Name.{name_of, held, held_of};
+ghost use Rattle.names.specs.Answers.{standard_answer, standard_out};
 ghost use Rattle.bits.specs.Packing.{Clean};
 ghost use Rattle.names.specs.Merge.{Begins, Moved, Ran};
+
+use labels::Scanned;
+use octets::{Done, Refusal};
 
 // A name by value: its octets with zeros after them, and its length; length 0 holds no name (01, A6 data).
 #[derive(Clone, Copy)]
@@ -18,72 +22,71 @@ pub struct Name {
     pub length: u8,
 }
 
-// The standard form of a name with zeros after it, and its length (01, Names): 4 for a malformed name, 5 for an output not of 255 octets.
-pub fn standard_form(name: &[u8], out: &mut [u8]) -> octets::Answer
-    ensures value { result ≡ standard_answer name.now (length out.old) }
-    ensures out_after { out.new ≡ standard_out name.now (length out.old) }
-{
-    octets::clear(out);
-    let t = labels::scan(name);
-    let standard = t.standard;
-    let number = number_of(name, t, out.len());
-    if number != 0 {
-        return octets::refused(number);
+impl Name {
+    // No name.
+    pub fn none() -> Name
+        ensures { result ≡ name_of [] }
+    {
+        Name {
+            octets: [0; 255],
+            length: 0,
+        }
     }
-    // Lent on by `[..]` and not by its own name, the slice stays in registers.
-    let n = inside::put_standard(&name[..], standard, out);
-    octets::Answer {
-        number: 0,
-        count: n as u32,
-        work: 0,
+
+    // The octets of the name.
+    pub fn as_slice(&self) -> &[u8]
+        ensures { result.now ≡ take self.now.length self.now.octets }
+    {
+        &self.octets[..usize::from(self.length)]
     }
 }
 
-// The number for a name, what a scan says of it, and an output of `room` octets.
-fn number_of(name: &[u8], t: labels::Scanned, room: usize) -> u8
-    requires { t ≡ scanned (scan_of name.now) }
-    ensures { result ≡ standard_number name.now room }
+// The standard form of a name with zeros after it, and its length (01, Names): 4 for a malformed name, 5 for an output not of 255 octets.
+pub fn standard_form(name: &[u8], out: &mut [u8]) -> Result<Done, Refusal>
+    ensures value { answered result ≡ standard_answer name.now (length out.old) }
+    ensures out_after { out.new ≡ standard_out name.now (length out.old) }
 {
-    if t.number != 0 {
-        return 4;
+    octets::clear(out);
+    let scanned = whole(name).ok_or(Refusal::Given)?;
+    if out.len() != 255 {
+        return Err(Refusal::Output);
     }
-    if t.used != name.len() {
-        return 4;
+    // Lent on by `[..]` and not by its own name, the slice stays in registers.
+    let n = inside::put_standard(&name[..], scanned.standard, out);
+    Ok(Done {
+        count: n as u32,
+        work: 0,
+    })
+}
+
+// What a scan finds of octets that are a name from end to end.
+fn whole(name: &[u8]) -> Option<Scanned>
+    ensures { MatchOption result (well_formed name.now ≡ false) (λ t. (well_formed name.now ≡ true) × (Ok t ≡ scanned (scan_of name.now))) }
+{
+    match labels::scan(name) {
+        Ok(scanned) if scanned.used == name.len() => Some(scanned),
+        _ => None,
     }
-    if room != 255 {
-        return 5;
-    }
-    0
 }
 
 // Whether octets are a name in standard form, from end to end.
 pub fn is_standard(name: &[u8]) -> bool
     ensures { result ≡ in_standard_form name.now }
 {
-    let t = labels::scan(name);
-    let number = t.number;
-    let used = t.used;
-    let standard = t.standard;
-    if number != 0 {
-        return false;
-    }
-    if used != name.len() {
-        return false;
-    }
-    standard
+    whole(name).is_some_and(|scanned| scanned.standard)
 }
 
 // The standard form of a name as a value; none for a malformed name.
-pub fn hold(name: &[u8]) -> Name
-    ensures { result ≡ held_of name.now }
+pub fn hold(name: &[u8]) -> Option<Name>
+    ensures value { held result ≡ held_of name.now }
+    ensures variant { is_some result ≡ well_formed name.now }
 {
     let mut octets = [0u8; 255];
-    let answer = standard_form(name, &mut octets);
-    let count = answer.count;
-    Name {
+    let done = standard_form(name, &mut octets).ok()?;
+    Some(Name {
         octets,
-        length: count as u8,
-    }
+        length: done.count as u8,
+    })
 }
 
 // Where the next label is read, and where the next octet is written.

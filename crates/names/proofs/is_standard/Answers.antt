@@ -1,23 +1,23 @@
 -- `names::is_standard` meets its contract: the scan tells all.
-use mathlib.Core.Path.{ap, ◌∙◌, sym}
+use Prim.Native.Nat.{ℕ}
+use mathlib.Core.Path.{◌≡◌, ap, ◌∙◌, sym}
+use mathlib.Core.Bool.{Bool, true, false}
+use mathlib.Core.List.{List}
+use borrow.Author.Rules.{rules}
+use Rattle.std.specs.Prelude.{Option, Some, None, Ok, MatchOption}
+use Rattle.octets.specs.Octets.{Small}
 use Rattle.labels.specs.declared.Scanned.{Scanned}
-use Rattle.names.proofs.AnswerLaws.{form_number, form_used, form_good}
+use Rattle.labels.specs.Scan.{scan_of, well_formed}
+use Rattle.labels.specs.Answers.{scanned, standard_by}
+use Rattle.names.specs.Standard.{in_standard_form}
 use Rattle.names.proofs.StandardLaws.{scan_standard, malformed_not}
 use Rattle.names.proofs.is_standard.Goals as goal
 
-pub returns-then-number-ne0 : goal.returns-then-number-ne0
-returns-then-number-ne0 c =
-    let name = c.args.name.now in
-    sym (malformed_not name (form_number name (λ h. c.if-number-ne0.true (ap (λ (r : Scanned). r.number) c.scan-t.ensures ∙ h))))
-
-pub returns-then-used-name : goal.returns-then-used-name
-returns-then-used-name c =
-    let name = c.args.name.now in
-    sym (malformed_not name (form_used name (λ h. c.if-used-name.true (ap (λ (r : Scanned). r.used) c.scan-t.ensures ∙ h))))
+tells : (name : List ℕ) → Small name → (found : Option Scanned) (r : Bool) (P : Scanned → Type 0)
+    → MatchOption found (well_formed name ≡ false) (λ t. (well_formed name ≡ true) × (Ok t ≡ scanned (scan_of name)))
+    → MatchOption found (r ≡ false) P → ((t : Scanned) → P t → r ≡ t.standard) → r ≡ in_standard_form name
+tells name s None r P w e f = e ∙ sym (malformed_not name w)
+tells name s (Some t) r P w e f = f t e ∙ ap standard_by w.1 ∙ scan_standard name s w.0
 
 pub returns : goal.returns
-returns c =
-    let name = c.args.name.now in
-    let t = c.scan-t.ensures in
-    let w = form_good name (sym (ap (λ (r : Scanned). r.number) t) ∙ c.if-number-ne0.false) (sym (ap (λ (r : Scanned). r.used) t) ∙ c.if-used-name.false) in
-    ap (λ (r : Scanned). r.standard) t ∙ scan_standard name (λ i. (c.shared_slice_known-1.given i).fits) w
+returns c = tells c.args.name.now (λ i. (c.type_inv.name i).fits) _ _ _ c.whole.ensures c.is_some_and.ensures (λ t p. search rules)
