@@ -11,7 +11,7 @@ use native.Mathlib.Nat.{mod-lt}
 use native.Mathlib.Numerals.{add-one}
 use borrow.Author.Tests.{ne_eqb, eq-eqb}
 use Rattle.octets.specs.Octets.{blank}
-use Rattle.bits.specs.Bits.{bits_of, unpack, pack_from}
+use Rattle.bits.specs.Bits.{bits_of, octets_for, unpack, pack_from}
 use Rattle.octets.proofs.OctetLaws.{drop_blank}
 use Rattle.bits.specs.Packing.{Clean, Ready, Pushed, Flushed}
 use Rattle.bits.specs.declared.inside.Packer.{Packer}
@@ -157,44 +157,42 @@ ready_after old new p q bs n h e r = record { clean = h.clean; have = h.have; va
 pub ready_less : (out : List ℕ) (p : Packer) (m n : ℕ) → m ≤ n → Ready out p n → Ready out p m
 ready_less out p m n h r = record { clean = r.clean; have = r.have; value = r.value; room = omega (arith, r.room) }
 
--- the loop over a label's octets: what it keeps
-pub record Appending (name old new : List ℕ) (from n : ℕ) (p q : Packer) (i left : ℕ) : Type 0 where
-  pub level : Level old new p q (unpack n (drop from name)) (unpack left (drop i name))
-  pub ready : Ready new q left
-  pub place : q.to * 8 + q.have + left ≡ p.to * 8 + p.have + n
-  pub inside : i + (left + 7) / 8 ≤ length name
-  pub less : left ≤ n
+-- the loop over octets that bits are packed from: what it keeps after i of them
+pub record Appending (src old new : List ℕ) (n : ℕ) (p q : Packer) (i : ℕ) : Type 0 where
+  pub level : Level old new p q (unpack n src) (unpack (n - 8 * i) (drop i src))
+  pub ready : Ready new q (n - 8 * i)
+  pub place : q.to * 8 + q.have + (n - 8 * i) ≡ p.to * 8 + p.have + n
   pub same : length new ≡ length old
 
-pub appending_turn : (name old new next : List ℕ) (from n : ℕ) (p q r : Packer) (i left : ℕ) → Appending name old new from n p q i left → 8 ≤ left
-    → Pushed new next q r (bits_of 8 (get_or name i 0)) → length next ≡ length new → Appending name old next from n p r (i + 1) (left - 8)
-appending_turn name old new next from n p q r i left a h s l =
-    let b = bits_length 8 (get_or name i 0) in
-    let k : i < length name = omega (arith, a.inside) in
-    record {
-      level = level_push old new next p q r (unpack n (drop from name)) (unpack left (drop i name)) (unpack (left - 8) (drop (i + 1) name)) (bits_of 8 (get_or name i 0)) a.level s
-          (unpack_turn name i left k h);
-      ready = ready_after new next q r (bits_of 8 (get_or name i 0)) (left - 8) s l (ready_less new q (length (bits_of 8 (get_or name i 0)) + (left - 8)) left (omega arith) a.ready);
-      place = omega (arith, a.place, s.place);
-      inside = omega (arith, a.inside);
-      less = omega (arith, a.less);
-      same = l ∙ a.same;
-    }
+module _ (src old new : List ℕ) (n : ℕ) (p q : Packer) (i : ℕ) (long : octets_for n ≤ length src) (a : Appending src old new n p q i) where
+  pub appending_turn : (next : List ℕ) (r : Packer) → i < n / 8 → Pushed new next q r (bits_of 8 (get_or src i 0)) → length next ≡ length new → Appending src old next n p r (i + 1)
+  appending_turn next r h s l =
+      let b = bits_length 8 (get_or src i 0) in
+      let e : n - 8 * i - 8 ≡ n - 8 * (i + 1) = omega arith in
+      record {
+        level = level_push old new next p q r (unpack n src) (unpack (n - 8 * i) (drop i src)) (unpack (n - 8 * (i + 1)) (drop (i + 1) src)) (bits_of 8 (get_or src i 0)) a.level s
+            (unpack_turn src i (n - 8 * i) (omega arith) (omega arith) ∙ rw e);
+        ready = ready_after new next q r (bits_of 8 (get_or src i 0)) (n - 8 * (i + 1)) s l
+            (ready_less new q (length (bits_of 8 (get_or src i 0)) + (n - 8 * (i + 1))) (n - 8 * i) (omega arith) a.ready);
+        place = omega (arith, a.place, s.place);
+        same = l ∙ a.same;
+      }
 
-pub appending_none : (name old new : List ℕ) (from n : ℕ) (p q : Packer) (i left : ℕ) → n ≤ length (drop from name) * 8 → Appending name old new from n p q i left → left ≡ 0
-    → Pushed old new p q (unpack n (drop from name))
-appending_none name old new from n p q i left f a h =
-    let b = unpack_length n (drop from name) f in
-    let e : unpack left (drop i name) ≡ [] = ap (λ (k : ℕ). unpack k (drop i name)) h ∙ unpack_zero (drop i name) in
-    let l : Level old new p q (unpack n (drop from name)) [] = rw e at a.level in
-    level_done old new p q (unpack n (drop from name)) left l a.ready (omega (arith, a.place))
+  pub appending_none : i ≡ n / 8 → n % 8 ≡ 0 → Pushed old new p q (unpack n src)
+  appending_none h k =
+      let b = unpack_length n src (omega arith) in
+      let z : n - 8 * i ≡ 0 = omega arith in
+      let l : Level old new p q (unpack n src) [] = rw (z, unpack_zero (drop i src)) at a.level in
+      level_done old new p q (unpack n src) (n - 8 * i) l a.ready (omega (arith, a.place))
 
-pub appending_last : (name old new next : List ℕ) (from n : ℕ) (p q r : Packer) (i left : ℕ) → n ≤ length (drop from name) * 8 → Appending name old new from n p q i left → 0 < left → left < 8
-    → Pushed new next q r (bits_of left (get_or name i 0 / 2 ^ (8 - left))) → length next ≡ length new → Pushed old next p r (unpack n (drop from name))
-appending_last name old new next from n p q r i left f a g h s l =
-    let b = unpack_length n (drop from name) f in
-    let d = bits_length left (get_or name i 0 / 2 ^ (8 - left)) in
-    let k : i < length name = omega (arith, a.inside) in
-    let v = level_push old new next p q r (unpack n (drop from name)) (unpack left (drop i name)) [] (bits_of left (get_or name i 0 / 2 ^ (8 - left))) a.level s
-    (unpack_last name i left k h ∙ sym (append-nil (bits_of left (get_or name i 0 / 2 ^ (8 - left))))) in
-    record { adds = v; clean = s.clean; have = s.have; value = s.value; place = omega (arith, a.place, s.place) }
+  pub appending_last : (next : List ℕ) (r : Packer) → i ≡ n / 8 → (n % 8 ≡ 0 → ⊥) → Pushed new next q r (bits_of (n % 8) (get_or src (n / 8) 0 / 2 ^ (8 - n % 8)))
+      → Pushed old next p r (unpack n src)
+  appending_last next r h k f =
+      let s = rw (← h) at f in
+      let b = unpack_length n src (omega arith) in
+      let m = n % 8 in
+      let d = bits_length m (get_or src i 0 / 2 ^ (8 - m)) in
+      let z : n - 8 * i ≡ m = omega arith in
+      let v = level_push old new next p q r (unpack n src) (unpack (n - 8 * i) (drop i src)) [] (bits_of m (get_or src i 0 / 2 ^ (8 - m))) a.level s
+      (rw z (unpack_last src i m (omega arith) (omega arith)) ∙ sym (append-nil (bits_of m (get_or src i 0 / 2 ^ (8 - m))))) in
+      record { adds = v; clean = s.clean; have = s.have; value = s.value; place = omega (arith, a.place, s.place) }

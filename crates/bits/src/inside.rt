@@ -1,6 +1,6 @@
 // What only our own layers call: bits packed into octets. Each function asks something of its caller.
 ghost use Rattle.std.specs.Prelude.{◌≡◌, ◌+◌, ◌/◌, ◌%◌, ◌^◌, ◌≤◌, ◌<◌, length, drop};
-ghost use Rattle.bits.specs.Bits.{bits_of, unpack};
+ghost use Rattle.bits.specs.Bits.{bits_of, octets_for, unpack};
 ghost use Rattle.bits.specs.Packing.{Ready, Pushed, Flushed};
 
 // The lowest k bits of an octet.
@@ -8,7 +8,14 @@ pub fn low(x: u8, k: usize) -> u8
     requires { k < 8 }
     ensures { result ≡ x % 2 ^ k }
 {
-    x - ((x >> k) << k)
+    x % (1 << k)
+}
+
+// How many octets so many bits take.
+pub fn octets_for(bits: usize) -> usize
+    ensures { result ≡ octets_for bits }
+{
+    bits.div_ceil(8)
 }
 
 // Bits on their way into an octet: where the octet goes, how many bits it has, and their value.
@@ -19,63 +26,89 @@ pub struct Packer {
     pub value: usize,
 }
 
-// The m bits of x, after those that are packed.
+impl Packer {
+    // No bits yet on their way to a place.
+    pub fn new(to: usize) -> Packer
+        ensures { result ≡ record { to = to; have = 0; value = 0 } }
+    {
+        Packer {
+            to,
+            have: 0,
+            value: 0,
+        }
+    }
+
+    // The m bits of x, after those that are packed.
+    pub fn push(self, out: &mut [u8], m: usize, x: u8) -> Packer
+        requires ready { Ready out.old self m }
+        requires m_bound { (m ≤ 8) × (x < 2 ^ m) }
+        ensures { Pushed out.old out.new self result (bits_of m x) }
+    {
+        let total = self.have + m;
+        if total < 8 {
+            return Packer {
+                to: self.to,
+                have: total,
+                value: (self.value << m) + usize::from(x),
+            };
+        }
+        let rest = total - 8;
+        out[self.to] = ((self.value << (8 - self.have)) + usize::from(x >> rest)) as u8;
+        Packer {
+            to: self.to + 1,
+            have: rest,
+            value: usize::from(low(x, rest)),
+        }
+    }
+
+    // The first n bits of octets, after those that are packed.
+    pub fn append(self, out: &mut [u8], src: &[u8], n: usize) -> Packer
+        requires ready { Ready out.old self n }
+        requires n_bound { octets_for n ≤ length src.now }
+        ensures { Pushed out.old out.new self result (unpack n src.now) }
+    {
+        let mut packer = self;
+        for octet in &src[..n / 8] {
+            packer = packer.push(out, 8, *octet);
+        }
+        match n % 8 {
+            0 => packer,
+            left => packer.push(out, left, src[n / 8] >> (8 - left)),
+        }
+    }
+
+    // The octet that was begun, written if it has bits; where the next octet goes.
+    pub fn flush(self, out: &mut [u8]) -> usize
+        requires { Ready out.old self 0 }
+        ensures { Flushed out.old out.new self result }
+    {
+        if self.have == 0 {
+            return self.to;
+        }
+        out[self.to] = (self.value << (8 - self.have)) as u8;
+        self.to + 1
+    }
+}
+
 pub fn push(out: &mut [u8], p: Packer, m: usize, x: u8) -> Packer
     requires ready { Ready out.old p m }
     requires m_bound { (m ≤ 8) × (x < 2 ^ m) }
     ensures { Pushed out.old out.new p result (bits_of m x) }
 {
-    let to = p.to;
-    let have = p.have;
-    let value = p.value;
-    let total = have + m;
-    if total < 8 {
-        return Packer {
-            to,
-            have: total,
-            value: (value << m) + octets::wide(x),
-        };
-    }
-    let k = total - 8;
-    out[to] = ((value << (8 - have)) + octets::wide(x >> k)) as u8;
-    Packer {
-        to: to + 1,
-        have: k,
-        value: octets::wide(low(x, k)),
-    }
+    p.push(out, m, x)
 }
 
-// The first n bits from a place on, after those that are packed.
 pub fn append(src: &[u8], from: usize, n: usize, out: &mut [u8], p: Packer) -> Packer
     requires ready { Ready out.old p n }
     requires n_bound { (n ≤ 256) × (from + (n + 7) / 8 ≤ length src.now) }
     ensures { Pushed out.old out.new p result (unpack n (drop from src.now)) }
 {
-    let mut q = p;
-    let mut i = from;
-    let mut left = n;
-    while 8 <= left {
-        q = push(out, q, 8, src[i]);
-        i += 1;
-        left -= 8;
-    }
-    if left == 0 {
-        return q;
-    }
-    push(out, q, left, src[i] >> (8 - left))
+    p.append(out, &src[from..], n)
 }
 
-// The octet that was begun, written if it has bits; where the next octet goes.
 pub fn flush(out: &mut [u8], p: Packer) -> usize
     requires { Ready out.old p 0 }
     ensures { Flushed out.old out.new p result }
 {
-    let to = p.to;
-    let have = p.have;
-    let value = p.value;
-    if have == 0 {
-        return to;
-    }
-    out[to] = (value << (8 - have)) as u8;
-    to + 1
+    p.flush(out)
 }

@@ -75,7 +75,7 @@ fn bit_label(s: &[u8], at: usize, run: usize) -> Result<Step, Refusal>
         return Err(Refusal::Short);
     }
     let bits = inside::count(s[at + 1]);
-    let octets = bits.div_ceil(8);
+    let octets = bits::inside::octets_for(bits);
     let end = at + 2 + octets;
     if s.len() < end {
         return Err(Refusal::Short);

@@ -12,6 +12,7 @@ ghost use Rattle.names.specs.Answers.{standard_answer, standard_out};
 ghost use Rattle.bits.specs.Packing.{Clean};
 ghost use Rattle.names.specs.Merge.{Begins, Moved, Ran};
 
+use bits::inside::Packer;
 use labels::Scanned;
 use octets::{Done, Refusal};
 
@@ -100,7 +101,7 @@ pub struct Place {
 #[derive(Clone, Copy)]
 pub struct Run {
     pub end: usize,
-    pub packer: bits::inside::Packer,
+    pub packer: Packer,
 }
 
 // The labels of a run from `at` on, after `sum` bits of it: the header at `to`, then the bits, the right label's first.
@@ -112,22 +113,19 @@ fn pack_run(name: &[u8], at: usize, sum: usize, to: usize, out: &mut [u8]) -> Ru
     if name[at] != 65 {
         out[to] = 65;
         out[to + 1] = (sum % 256) as u8;
-        let packer = bits::inside::Packer {
-            to: to + 2,
-            have: 0,
-            value: 0,
+        return Run {
+            end: at,
+            packer: Packer::new(to + 2),
         };
-        return Run { end: at, packer };
     }
-    let n = labels::inside::count(name[at + 1]);
-    let a = at + 2;
-    let e = a + (n + 7) / 8;
+    let bits = labels::inside::count(name[at + 1]);
+    let after = at + 2 + bits::inside::octets_for(bits);
     // Lent on by `[..]` and not by its own name, the slice stays in registers.
-    let r = pack_run(&name[..], e, sum + n, to, out);
-    let end = r.end;
-    let p = r.packer;
-    let packer = bits::inside::append(name, a, n, out, p);
-    Run { end, packer }
+    let run = pack_run(&name[..], after, sum + bits, to, out);
+    Run {
+        end: run.end,
+        packer: run.packer.append(out, &name[at + 2..], bits),
+    }
 }
 
 // The label or the run at `at`, written at `to`.
@@ -138,21 +136,20 @@ fn next(name: &[u8], at: usize, to: usize, out: &mut [u8]) -> Place
 {
     let x = name[at];
     if x == 65 {
-        let n = labels::inside::count(name[at + 1]);
-        let a = at + 2;
-        let e = a + (n + 7) / 8;
-        let r = pack_run(name, e, n, to, out);
-        let end = r.end;
-        let p = r.packer;
-        let q = bits::inside::append(name, a, n, out, p);
-        let t = bits::inside::flush(out, q);
-        return Place { at: end, to: t };
+        let bits = labels::inside::count(name[at + 1]);
+        let after = at + 2 + bits::inside::octets_for(bits);
+        let run = pack_run(name, after, bits, to, out);
+        let packer = run.packer.append(out, &name[at + 2..], bits);
+        return Place {
+            at: run.end,
+            to: packer.flush(out),
+        };
     }
-    let n = octets::wide(x) + 1;
-    octets::inside::copy(name, at, n, out, to);
+    let size = usize::from(x) + 1;
+    octets::inside::copy(name, at, size, out, to);
     Place {
-        at: at + n,
-        to: to + n,
+        at: at + size,
+        to: to + size,
     }
 }
 
@@ -161,18 +158,14 @@ fn merge(name: &[u8], out: &mut [u8]) -> usize
     requires { (well_formed name.now ≡ true) × (out.old ≡ blank 255) }
     ensures { (out.new ≡ standard_of name.now ++ blank (255 - length (standard_of name.now))) × (result ≡ length (standard_of name.now)) × (result ≤ 255) }
 {
-    let n = name.len();
     let mut at: usize = 0;
     let mut to: usize = 0;
-    while at < n {
-        if name[at] == 0 {
-            return to + 1;
-        }
-        let t = next(name, at, to, out);
-        at = t.at;
-        to = t.to;
+    while name[at] != 0 {
+        let place = next(name, at, to, out);
+        at = place.at;
+        to = place.to;
     }
-    0
+    to + 1
 }
 
 pub mod inside;
