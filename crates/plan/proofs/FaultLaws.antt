@@ -2,7 +2,12 @@
 use Prim.Native.Nat.{ℕ, zero, suc, ◌+◌, ◌-◌, ◌≤◌, ◌<◌}
 use mathlib.Core.Path.{◌≡◌, refl, ap, ◌∙◌, sym}
 use mathlib.Core.Bool.{Bool, true, false, not}
-use mathlib.Core.List.{List}
+use mathlib.Core.List.{List, [], ◌∷◌}
+use lib.ListN.{get_or}
+use Rattle.std.specs.Prelude.{Some, if◌then◌else◌}
+use Rattle.plan.specs.declared.Field.{Field}
+use Rattle.plan.specs.declared.Field.TheVariants.{Kind, Prefix, Zero, Address, Owner, Target, Ttl}
+use Rattle.plan.specs.Faults.{field_number}
 use mathlib.Core.Logic.{◌⊎◌, inl, inr}
 use lib.Dec.{leb, eqb}
 use native.Mathlib.Omega.{arith}
@@ -35,6 +40,34 @@ module _ {x : Bool} (r : List ℕ) (f : ℕ) (l : f < field_count) (e : x ≡ fi
 
   pub field_passes : not x ≡ false → left_from r f ≡ left_from r (f + 1)
   field_passes h = first_on (λ i. not (field_good r i)) f field_count l (ap not (sym e) ∙ h)
+
+-- a field has a number
+pub number_known : (f : Field) → field_number (Some f) < field_count
+number_known Kind = omega arith
+number_known Prefix = omega arith
+number_known Zero = omega arith
+number_known Address = omega arith
+number_known Owner = omega arith
+number_known Target = omega arith
+number_known Ttl = omega arith
+
+-- the first field at fault by the answers of the tests, in their order
+pub fault_by : (r : List ℕ) → fault_of r ≡ (
+    if not (type_good r) then 0 else if not (prefix_good r) then 1 else if not (eqb (zero_of r) 0) then 2 else if not (address_good r) then 3 else
+    if not (slot_good (owner_slot r)) then 4 else if not (target_good r) then 5 else if not (ttl_good r) then 6 else field_count)
+unfolding fault_of field_good tests_of first_from
+fault_by r = go (type_good r) (prefix_good r) (eqb (zero_of r) 0) (address_good r) (slot_good (owner_slot r)) (target_good r) (ttl_good r)
+  where
+    go : (a b c d e f g : Bool) → first_from (λ i. not (get_or (a ∷ b ∷ c ∷ d ∷ e ∷ f ∷ g ∷ []) i true)) 0 7 ≡ (
+        if not a then 0 else if not b then 1 else if not c then 2 else if not d then 3 else if not e then 4 else if not f then 5 else if not g then 6 else 7)
+    go false b c d e f g = refl
+    go true false c d e f g = refl
+    go true true false d e f g = refl
+    go true true true false e f g = refl
+    go true true true true false f g = refl
+    go true true true true true false g = refl
+    go true true true true true true false = refl
+    go true true true true true true true = refl
 
 -- a record without a fault passes each test
 pub fault_none : (r : List ℕ) → ((f : ℕ) → f < field_count → field_good r f ≡ true) → fault_of r ≡ field_count

@@ -20,7 +20,7 @@ use Rattle.names.specs.Name.{name_of}
 use Rattle.names.specs.declared.Name.{Name}
 use Rattle.names.proofs.StandardLaws.{in_standard}
 use Rattle.names.proofs.NameLaws.{standard_short}
-use Rattle.plan.specs.Layout.{record_size, slot_size, name_room, ttl_size, a6, type_of, prefix_of, zero_of, address_of, owner_slot, target_slot, ttl_of, name_in, slot_of, is_a6, target_of, record_of, count_of, record_at}
+use Rattle.plan.specs.Layout.{record_size, slot_size, name_room, ttl_size, a6, type_of, prefix_of, zero_of, address_of, owner_slot, target_slot, ttl_of, name_in, slot_of, is_type, is_a6, target_of, record_of, count_of, record_at}
 use Rattle.plan.specs.Check.{field_count, fault_of, check_of, InOrder}
 use Rattle.plan.specs.Good.{Holds, Good}
 use Rattle.plan.specs.Fields.{one_a6, fields_of, slot_for, a6_record, HoldsName, SoundFields}
@@ -71,7 +71,8 @@ module _ (r : List ℕ) where
   pub one_fault : (fault_of r ≡ field_count → ⊥) → one_a6 r ≡ false
   one_fault n = refuted (one_a6 r) (λ h. n (good_fault r (one_good h)))
 
-  pub one_type : length r ≡ record_size → fault_of r ≡ field_count → one_a6 r ≡ eqb (type_of r) a6
+  pub one_type : length r ≡ record_size → fault_of r ≡ field_count → one_a6 r ≡ is_a6 r
+  unfolding is_type
   one_type l f = bool_iff (one_a6 r) (eqb (type_of r) a6) (λ h. eq-eqb (type_of r) a6 (one_parts h).2) (λ h. good_one l (eqb-true (type_of r) a6 h) (fault_good r f))
 
 -- ---- the fields of a record

@@ -1,5 +1,6 @@
 pub mod LayoutLaws
 pub mod RecordLaws
+pub mod ReadLaws
 pub mod WriteLaws
 pub mod SlotLaws
 pub mod FirstLaws

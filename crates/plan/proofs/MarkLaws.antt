@@ -11,7 +11,9 @@ use native.Mathlib.Omega.{arith}
 use native.Mathlib.Nat.{zero-add, mul-le-mul}
 use native.Mathlib.Numerals.{add-one}
 use borrow.Author.Tests.{lt-ltb, le-ltb, ltb-true, ltb-false, eqb-true, eqb-false}
-use Rattle.octets.specs.Octets.{among}
+use Rattle.std.specs.Prelude.{◌==◌, ◌||◌}
+use Rattle.std.specs.List.{fold}
+use Rattle.octets.proofs.BoolLaws.{clash}
 use Rattle.names.specs.Standard.{lower, same_name}
 use Rattle.names.proofs.LowerLaws.{lower_ways}
 use Rattle.names.proofs.KeyLaws.{same_lowered}
@@ -88,16 +90,22 @@ pub same_mark : (s s' : List ℕ) → Holds s → Holds s' → same_name (name_i
 same_mark s s' p q h =
     ap mark_of p.whole ∙ slot_mark (name_in s) (name_in s') (same_lowered (name_in s) (name_in s') p.name q.name h) ∙ sym (ap mark_of q.whole)
 
--- a mark that is not among others is none of them
-pub among_not : (m : ℕ) (marks : List ℕ) → among m marks ≡ false → (i : ℕ) → i < length marks → get_or marks i 0 ≡ m → ⊥
-unfolding among
-among_not m [] h i p e = omega arith
-among_not m (x ∷ xs) h i p e = go (eqb x m) refl i p e (λ k l f. among_not m xs k l f)
+-- a mark that is not met among others is none of them
+abbrev met_in : ℕ → Bool → List ℕ → Bool
+met_in m = fold (λ met mark. met || (mark == m))
+
+met_stays : (m : ℕ) (marks : List ℕ) → met_in m true marks ≡ true
+met_stays m [] = refl
+met_stays m (x ∷ xs) = met_stays m xs
+
+pub met_not : (m : ℕ) (marks : List ℕ) → met_in m false marks ≡ false → (i : ℕ) → i < length marks → get_or marks i 0 ≡ m → ⊥
+met_not m [] h i p e = omega arith
+met_not m (x ∷ xs) h i p e = go (x == m) refl (met_not m xs) i p e
   where
-    go : (t : Bool) → eqb x m ≡ t → (k : ℕ) → k < suc (length xs) → get_or (x ∷ xs) k 0 ≡ m → (among m xs ≡ false → (l : ℕ) → l < length xs → get_or xs l 0 ≡ m → ⊥) → ⊥
-    go true d k p e ih = let z : true ≡ false = rw (among, d) at h in let y : ◌≡◌ {A = ℕ} 0 1 = cc in omega arith
-    go false d zero p e ih = eqb-false x m d e
-    go false d (suc k) p e ih = ih (rw (among, d) at h) k (omega arith) e
+    go : (t : Bool) → (x == m) ≡ t → (met_in m false xs ≡ false → (l : ℕ) → l < length xs → get_or xs l 0 ≡ m → ⊥) → (k : ℕ) → k < suc (length xs) → get_or (x ∷ xs) k 0 ≡ m → ⊥
+    go true d ih k p e = clash refl (sym (met_stays m xs) ∙ sym (ap (λ (b : Bool). met_in m b xs) d) ∙ h)
+    go false d ih zero p e = eqb-false x m d e
+    go false d ih (suc k) p e = ih (sym (ap (λ (b : Bool). met_in m b xs) d) ∙ h) k (omega arith) e
 
 -- the mark of a record
 module _ (t : List ℕ) (i : ℕ) where
@@ -143,8 +151,8 @@ module _ (t marks : List ℕ) (j m : ℕ) (w : Ready t marks j m) (d : is_dname 
       twin_unlike t j i (sound_good t w.sound i (omega (arith, w.here))).owner (sound_good t w.sound j w.here).owner d
       (λ e. u (w.before i p ∙ e ∙ sym w.own))
 
-  pub no_twin : among m marks ≡ false → some (twin t j) j ≡ false
-  no_twin a = none_some (twin t j) j (none_first (twin t j) j (λ i p. twin_not i p (among_not m marks a i (omega (arith, w.size)))))
+  pub no_twin : met_in m false marks ≡ false → some (twin t j) j ≡ false
+  no_twin a = none_some (twin t j) j (none_first (twin t j) j (λ i p. twin_not i p (met_not m marks a i (omega (arith, w.size)))))
 
 -- the marks as they grow
 pub marked_take : (t marks : List ℕ) (j : ℕ) → Marked t marks j → Marked t (take j marks) j

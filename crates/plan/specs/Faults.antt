@@ -1,5 +1,5 @@
 -- Which record, and which of its fields (T-04): the fault of a table, and an answer with it beside.
-use Rattle.std.specs.Prelude.{ℕ, ◌<◌, ◌≡◌, true, false, List, Result, Ok, Err, eqb}
+use Rattle.std.specs.Prelude.{ℕ, ◌<◌, ◌≡◌, true, false, List, Option, Some, None, Result, Ok, Err, eqb}
 use Rattle.octets.specs.declared.Answer.{Answer}
 use Rattle.octets.specs.declared.Done.{Done}
 use Rattle.octets.specs.declared.Refusal.{Refusal}
@@ -8,8 +8,21 @@ use Rattle.octets.specs.Refusals.{code_of}
 use Rattle.plan.specs.Layout.{count_of, record_at}
 use Rattle.plan.specs.Check.{field_count, owner_field, field_good, fault_of, first_fault, Twins, first_repeat, check_of}
 use Rattle.plan.specs.declared.Fault.{Fault}
+use Rattle.plan.specs.declared.Field.{Field}
+use Rattle.plan.specs.declared.Field.TheVariants.{Kind, Prefix, Zero, Address, Owner, Target, Ttl}
 use Rattle.plan.specs.declared.Refused.{Refused}
 use Rattle.plan.specs.declared.Reply.{Reply}
+
+-- the number of a field; the number of fields for none
+abbrev pub field_number : Option Field → ℕ
+field_number None = field_count
+field_number (Some Kind) = 0
+field_number (Some Prefix) = 1
+field_number (Some Zero) = 2
+field_number (Some Address) = 3
+field_number (Some Owner) = 4
+field_number (Some Target) = 5
+field_number (Some Ttl) = 6
 
 -- the place of the first field at fault in the first record at fault; of the owner of the first DNAME that has an earlier one's; and no place
 abbrev pub fault_place : List ℕ → Fault

@@ -1,18 +1,18 @@
 // What only our own layers call: the fields of a record by its index, and slots of names, compared and marked. Nobody else knows where a field stands.
-ghost use Rattle.std.specs.Prelude.{◌≡◌, true, ◌+◌, ◌*◌, ◌^◌, ◌≤◌, ◌<◌, eqb, length, get_or, MatchResult};
+ghost use Rattle.std.specs.Prelude.{◌≡◌, ◌+◌, ◌*◌, ◌^◌, ◌≤◌, ◌<◌, eqb, length, get_or, true, false, MatchOption, MatchResult};
 ghost use Rattle.std.proofs.Math.Seq.{paste};
 ghost use Rattle.octets.specs.Refusals.{code_of};
 ghost use Rattle.names.specs.Standard.{same_name};
 ghost use Rattle.chains.specs.Lists.{pick};
-ghost use Rattle.plan.specs.Layout.{record_size, max_records, owner_place, name_room, slot_size, type_of, prefix_of, zero_of, address_of, owner_slot, target_slot, ttl_of, name_in, slot_of, record_of, count_of, record_at, prefix_at, address_at, owner_at, target_at, ttl_at};
-ghost use Rattle.plan.specs.Records.{type_at};
+ghost use Rattle.plan.specs.Layout.{record_size, max_records, owner_place, name_room, slot_size, type_of, is_a6, is_dname, prefix_of, zero_of, address_of, owner_slot, target_slot, ttl_of, name_in, slot_of, record_of, count_of, record_at, prefix_at, address_at, owner_at, target_at, ttl_at};
+ghost use Rattle.plan.specs.Records.{kind_number};
 ghost use Rattle.names.specs.Name.{name_of, held_of};
 ghost use Rattle.plan.specs.Check.{targetless, entry_number};
 ghost use Rattle.plan.specs.Faults.{fault_in};
 ghost use Rattle.plan.specs.Good.{Holds};
-ghost use Rattle.plan.specs.Marks.{word_at, pair_at, masked_at, term_at, sum_to, sum_of, mark_of, alike_of};
+ghost use Rattle.plan.specs.Marks.{pair_at, masked_at, term_at, sum_to, sum_of, mark_of, alike_of};
 ghost use Rattle.plan.specs.Part.{owner_within};
-ghost use Rattle.plan.specs.Fields.{fields_of, slot_for, a6_record};
+ghost use Rattle.plan.specs.Fields.{one_a6, fields_of, slot_for, a6_record};
 
 use crate::{Part, Refused};
 use octets::Refusal;
@@ -29,13 +29,18 @@ const TARGET: usize = 276;
 
 const TTL: usize = 532;
 
-// The types.
-pub const A6: u16 = 38;
+// The octets of a slot: its length, and the most that a name has.
+pub const SLOT: usize = 256;
 
-pub const DNAME: u16 = 39;
+// The types of records: `as u16` gives the number.
+#[derive(Clone, Copy, Debug, PartialEq, Eq)]
+pub enum Kind {
+    A6 = 38,
+    Dname = 39,
+}
 
 // All bits of the four octets of a word but the one of each that tells the case of a letter (T-03).
-const CASELESS: usize = 0xDFDFDFDF;
+const CASELESS: u32 = 0xDFDFDFDF;
 
 // The fields of an A6 record; a target of length 0 where it has none (T-06).
 #[derive(Clone, Copy)]
@@ -52,10 +57,9 @@ pub fn enter(table: &[u8], name: &[u8]) -> Result<names::Name, Refused>
     ensures { MatchResult result (λ held. (entry_number table.now name.now ≡ 0) × (held ≡ held_of name.now)) (λ refused. (code_of refused.refusal ≡ entry_number table.now name.now) × (refused.fault ≡ fault_in table.now)) }
 {
     crate::check(table)?;
-    let held = names::hold(name);
-    if held.length == 0 {
+    let Some(held) = names::hold(name) else {
         return Err(Refused::from(Refusal::Given));
-    }
+    };
     Ok(held)
 }
 
@@ -67,24 +71,29 @@ pub fn count(table: &[u8]) -> usize
 }
 
 // The octets of the record at an index.
-pub fn row(table: &[u8], index: usize) -> &[u8]
+pub fn row(table: &[u8], index: usize) -> &[u8; RECORD]
     requires { index < count_of table.now }
-    ensures { (result.now ≡ record_at table.now index) × (length result.now ≡ record_size) }
+    ensures { result.now ≡ record_at table.now index }
 {
     let a = index * RECORD;
-    let e = a + RECORD;
-    &table[a..e]
+    table[a..a + RECORD].as_array().unwrap()
 }
 
-// The type of the record at an index.
-pub fn kind(table: &[u8], index: usize) -> u16
-    requires { index < count_of table.now }
-    ensures { result ≡ type_at table.now index }
+// The octets of exactly one A6 record in order (T-06).
+pub fn one_a6(row: &[u8]) -> Option<&[u8; RECORD]>
+    ensures { MatchOption result (one_a6 row.now ≡ false) (λ whole. (whole.now ≡ row.now) × (one_a6 row.now ≡ true)) }
 {
-    kind_of(row(table, index))
+    let whole = row.as_array()?;
+    if crate::first_field(whole).is_some() {
+        return None;
+    }
+    if !is_a6(whole) {
+        return None;
+    }
+    Some(whole)
 }
 
-// Its prefix length.
+// The prefix length of the record at an index.
 pub fn prefix(table: &[u8], index: usize) -> u8
     requires { index < count_of table.now }
     ensures { result ≡ prefix_at table.now index }
@@ -97,7 +106,7 @@ pub fn address(table: &[u8], index: usize) -> [u8; 16]
     requires { index < count_of table.now }
     ensures { result ≡ address_at table.now index }
 {
-    held_address(row(table, index))
+    *address_of(row(table, index))
 }
 
 // Its owner, as a part of the table.
@@ -147,108 +156,102 @@ pub fn ttl(table: &[u8], index: usize) -> u32
     ttl_of(row(table, index))
 }
 
-// The fields of a record, of its octets.
-pub fn kind_of(row: &[u8]) -> u16
-    requires { length row.now ≡ record_size }
+// The number of a record's type.
+fn type_of(row: &[u8; RECORD]) -> u16
     ensures { result ≡ type_of row.now }
 {
-    row[0] as u16 * 256 + row[1] as u16
+    u16::from_be_bytes([row[0], row[1]])
 }
 
-pub fn prefix_of(row: &[u8]) -> u8
-    requires { length row.now ≡ record_size }
+// Whether a record is an A6 record.
+pub fn is_a6(row: &[u8; RECORD]) -> bool
+    ensures { result ≡ is_a6 row.now }
+{
+    type_of(row) == Kind::A6 as u16
+}
+
+// Whether a record is a DNAME record.
+pub fn is_dname(row: &[u8; RECORD]) -> bool
+    ensures { result ≡ is_dname row.now }
+{
+    type_of(row) == Kind::Dname as u16
+}
+
+// The fields of a record.
+
+pub fn prefix_of(row: &[u8; RECORD]) -> u8
     ensures { result ≡ prefix_of row.now }
 {
     row[2]
 }
 
-pub fn zero_of(row: &[u8]) -> u8
-    requires { length row.now ≡ record_size }
+pub fn zero_of(row: &[u8; RECORD]) -> u8
     ensures { result ≡ zero_of row.now }
 {
     row[3]
 }
 
-pub fn address_of(row: &[u8]) -> &[u8]
-    requires { length row.now ≡ record_size }
+pub fn address_of(row: &[u8; RECORD]) -> &[u8; 16]
     ensures { result.now ≡ address_of row.now }
 {
-    &row[ADDRESS..OWNER]
+    row[ADDRESS..OWNER].as_array().unwrap()
 }
 
-// The address by value.
-fn held_address(row: &[u8]) -> [u8; 16]
-    requires { length row.now ≡ record_size }
-    ensures { result ≡ address_of row.now }
+pub fn owner_slot(row: &[u8; RECORD]) -> &[u8; SLOT]
+    ensures { result.now ≡ owner_slot row.now }
 {
-    let mut out = [0u8; 16];
-    octets::inside::copy(row, ADDRESS, 16, &mut out, 0);
-    out
+    row[OWNER..TARGET].as_array().unwrap()
 }
 
-pub fn owner_slot(row: &[u8]) -> &[u8]
-    requires { length row.now ≡ record_size }
-    ensures { (result.now ≡ owner_slot row.now) × (length result.now ≡ slot_size) }
+pub fn target_slot(row: &[u8; RECORD]) -> &[u8; SLOT]
+    ensures { result.now ≡ target_slot row.now }
 {
-    &row[OWNER..TARGET]
+    row[TARGET..TTL].as_array().unwrap()
 }
 
-pub fn target_slot(row: &[u8]) -> &[u8]
-    requires { length row.now ≡ record_size }
-    ensures { (result.now ≡ target_slot row.now) × (length result.now ≡ slot_size) }
-{
-    &row[TARGET..TTL]
-}
-
-pub fn ttl_of(row: &[u8]) -> u32
-    requires { length row.now ≡ record_size }
+pub fn ttl_of(row: &[u8; RECORD]) -> u32
     ensures { result ≡ ttl_of row.now }
 {
-    octets::inside::quarter(row, TTL) as u32
+    u32::from_be_bytes(*row[TTL..].as_array().unwrap())
 }
 
 // Whether a record leads to no name: an A6 record with prefix length 0.
-pub fn is_targetless(row: &[u8]) -> bool
-    requires { length row.now ≡ record_size }
+pub fn is_targetless(row: &[u8; RECORD]) -> bool
     ensures { result ≡ targetless row.now }
 {
-    if kind_of(row) != A6 {
-        return false;
-    }
-    prefix_of(row) == 0
+    is_a6(row) && prefix_of(row) == 0
 }
 
 // The name that a slot holds, and where the octets after it begin.
-pub fn name_in(slot: &[u8]) -> &[u8]
-    requires { length slot.now ≡ slot_size }
+pub fn name_in(slot: &[u8; SLOT]) -> &[u8]
     ensures { result.now ≡ name_in slot.now }
 {
-    let e = 1 + octets::wide(slot[0]);
-    &slot[1..e]
+    let end = fill_in(slot);
+    &slot[1..end]
 }
 
-pub fn fill_in(slot: &[u8]) -> usize
-    requires { length slot.now ≡ slot_size }
+pub fn fill_in(slot: &[u8; SLOT]) -> usize
     ensures { result ≡ 1 + get_or slot.now 0 0 }
 {
-    1 + octets::wide(slot[0])
+    1 + usize::from(slot[0])
 }
 
 // A record of its fields, the names as slots, at a place of the output.
 pub fn write_record(
-    kind: u16,
+    kind: Kind,
     prefix: u8,
     address: [u8; 16],
-    owner: &[u8],
-    target: &[u8],
+    owner: &[u8; SLOT],
+    target: &[u8; SLOT],
     ttl: u32,
     out: &mut [u8],
     to: usize,
 )
-    requires { (length owner.now ≡ slot_size) × (length target.now ≡ slot_size) × (to + record_size ≤ length out.old) }
-    ensures { out.new ≡ paste out.old to (record_of kind prefix address owner.now target.now ttl) record_size }
+    requires { to + record_size ≤ length out.old }
+    ensures { out.new ≡ paste out.old to (record_of (kind_number kind) prefix address owner.now target.now ttl) record_size }
 {
-    let head = [(kind / 256) as u8, (kind % 256) as u8, prefix, 0u8];
+    let [high, low] = (kind as u16).to_be_bytes();
+    let head = [high, low, prefix, 0];
     octets::inside::copy(&head, 0, 4, out, to);
     octets::inside::copy(&address, 0, 16, out, to + ADDRESS);
     octets::inside::copy(owner, 0, 256, out, to + OWNER);
@@ -258,24 +261,23 @@ pub fn write_record(
 }
 
 // The slot of a name.
-pub fn slot_of(name: &[u8]) -> [u8; 256]
+pub fn slot_of(name: &[u8]) -> [u8; SLOT]
     requires { length name.now ≤ name_room }
     ensures { result ≡ slot_of name.now }
 {
-    let mut slot = [0u8; 256];
+    let mut slot = [0u8; SLOT];
     slot[0] = name.len() as u8;
     octets::inside::copy(name, 0, name.len(), &mut slot, 1);
     slot
 }
 
 // The fields of a record, by value (T-06).
-pub fn fields_of(row: &[u8]) -> Fields
-    requires { length row.now ≡ record_size }
+pub fn fields_of(row: &[u8; RECORD]) -> Fields
     ensures { result ≡ fields_of row.now }
 {
     Fields {
         prefix: prefix_of(row),
-        address: held_address(row),
+        address: *address_of(row),
         owner: held_name(owner_slot(row)),
         target: held_name(target_slot(row)),
         ttl: ttl_of(row),
@@ -292,12 +294,11 @@ pub fn write_fields(fields: Fields, out: &mut [u8], to: usize)
     let owner = slot_for(fields.owner);
     let target = slot_for(fields.target);
     let ttl = fields.ttl;
-    write_record(A6, prefix, address, &owner, &target, ttl, out, to);
+    write_record(Kind::A6, prefix, address, &owner, &target, ttl, out, to);
 }
 
 // The name that a slot holds, by value.
-fn held_name(slot: &[u8]) -> names::Name
-    requires { length slot.now ≡ slot_size }
+fn held_name(slot: &[u8; SLOT]) -> names::Name
     ensures { result ≡ name_of (name_in slot.now) }
 {
     let name = name_in(slot);
@@ -310,10 +311,10 @@ fn held_name(slot: &[u8]) -> names::Name
 }
 
 // The slot of a name that is held by value.
-fn slot_for(name: names::Name) -> [u8; 256]
+fn slot_for(name: names::Name) -> [u8; SLOT]
     ensures { result ≡ slot_for name }
 {
-    let mut slot = [0u8; 256];
+    let mut slot = [0u8; SLOT];
     slot[0] = name.length;
     let octets = name.octets;
     octets::inside::copy(&octets, 0, 255, &mut slot, 1);
@@ -321,19 +322,16 @@ fn slot_for(name: names::Name) -> [u8; 256]
 }
 
 // Whether two slots hold the same name.
-pub fn same(a: &[u8], b: &[u8]) -> bool
-    requires { (length a.now ≡ slot_size) × (length b.now ≡ slot_size) × Holds a.now × Holds b.now }
+pub fn same(a: &[u8; SLOT], b: &[u8; SLOT]) -> bool
+    requires { Holds a.now × Holds b.now }
     ensures { result ≡ same_name (name_in a.now) (name_in b.now) }
 {
-    if alike(a, b) {
-        return true;
-    }
-    same_spelt(a, b)
+    alike(a, b) || same_spelt(a, b)
 }
 
 // The same by the labels of the names. After a name a slot is zero, so that whole pieces of 32 octets are compared, which is faster.
-fn same_spelt(a: &[u8], b: &[u8]) -> bool
-    requires { (length a.now ≡ slot_size) × (length b.now ≡ slot_size) × Holds a.now × Holds b.now }
+fn same_spelt(a: &[u8; SLOT], b: &[u8; SLOT]) -> bool
+    requires { Holds a.now × Holds b.now }
     ensures { result ≡ same_name (name_in a.now) (name_in b.now) }
 {
     let n = a[0];
@@ -341,19 +339,18 @@ fn same_spelt(a: &[u8], b: &[u8]) -> bool
         return false;
     }
     let k = pieces(n);
-    names::inside::same_labels(&a[..k], &b[..k], 1, 1 + octets::wide(n))
+    names::inside::same_labels(&a[..k], &b[..k], 1, 1 + usize::from(n))
 }
 
 // The octets of a slot that are compared where its name has so many: a multiple of 32.
 fn pieces(n: u8) -> usize
     ensures { (1 + n ≤ result) × (result ≤ slot_size) }
 {
-    octets::wide(n) / 32 * 32 + 32
+    usize::from(n) / 32 * 32 + 32
 }
 
 // Whether the first 32 octets of two slots are the same and hold their names whole: most names that are the same are told by this alone.
-pub fn alike(a: &[u8], b: &[u8]) -> bool
-    requires { (length a.now ≡ slot_size) × (length b.now ≡ slot_size) }
+pub fn alike(a: &[u8; SLOT], b: &[u8; SLOT]) -> bool
     ensures { result ≡ alike_of a.now b.now }
 {
     if pair(a, 0) != pair(b, 0) {
@@ -372,8 +369,7 @@ pub fn alike(a: &[u8], b: &[u8]) -> bool
 }
 
 // A short number that the slots of one name share. The first 32 octets are enough for most names.
-pub fn mark(slot: &[u8]) -> u16
-    requires { length slot.now ≡ slot_size }
+pub fn mark(slot: &[u8; SLOT]) -> u16
     ensures { result ≡ mark_of slot.now }
 {
     let sum = sum_of(slot);
@@ -381,8 +377,7 @@ pub fn mark(slot: &[u8]) -> u16
 }
 
 // The sum of the words that count: the first eight, and all of them where the name reaches past those.
-fn sum_of(slot: &[u8]) -> usize
-    requires { length slot.now ≡ slot_size }
+fn sum_of(slot: &[u8; SLOT]) -> usize
     ensures { (result ≡ sum_of slot.now) × (result < 2 ^ 58) }
 {
     let front = first_sum(slot);
@@ -393,8 +388,7 @@ fn sum_of(slot: &[u8]) -> usize
 }
 
 // The sum of the first eight words, without a loop, which is faster.
-fn first_sum(slot: &[u8]) -> usize
-    requires { length slot.now ≡ slot_size }
+fn first_sum(slot: &[u8; SLOT]) -> usize
     ensures { (result ≡ sum_to slot.now 8) × (result < 2 ^ 55) }
 {
     term(slot, 0)
@@ -408,50 +402,37 @@ fn first_sum(slot: &[u8]) -> usize
 }
 
 // The sum of all words, from that of the first eight.
-fn whole_sum(slot: &[u8], front: usize) -> usize
-    requires { (length slot.now ≡ slot_size) × (front ≡ sum_to slot.now 8) × (front < 2 ^ 55) }
+fn whole_sum(slot: &[u8; SLOT], front: usize) -> usize
+    requires { (front ≡ sum_to slot.now 8) × (front < 2 ^ 55) }
     ensures { (result ≡ sum_to slot.now 64) × (result < 2 ^ 58) }
 {
     let mut sum = front;
-    let mut k: usize = 8;
-    while k < 64 {
+    for k in 8..64 {
         sum += term(slot, k);
-        k += 1;
     }
     sum
 }
 
 // What a word adds to the sum.
-fn term(slot: &[u8], k: usize) -> usize
-    requires { (length slot.now ≡ slot_size) × (k < 64) }
+fn term(slot: &[u8; SLOT], k: usize) -> usize
+    requires { (k < 64) }
     ensures { (result ≡ term_at slot.now k) × (result < 2 ^ 52) }
 {
     masked(slot, k * 4) * (52361 + k * 7919)
 }
 
-// The four octets from a place on as one number, each without the bit that tells the case of a letter, by one mask on the word.
-fn masked(slot: &[u8], i: usize) -> usize
-    requires { i + 4 ≤ length slot.now }
+// The four octets from a place on as one number, the lowest first, each without the bit that tells the case of a letter, by one mask on the word.
+fn masked(slot: &[u8; SLOT], i: usize) -> usize
+    requires { i + 4 ≤ slot_size }
     ensures { (result ≡ masked_at slot.now i) × (result < 4294967296) }
 {
-    word(slot, i) & CASELESS
+    (u32::from_le_bytes(*slot[i..i + 4].as_array().unwrap()) & CASELESS) as usize
 }
 
 // The eight octets from a place on as one number, the lowest first.
-fn pair(slot: &[u8], i: usize) -> usize
-    requires { i + 8 ≤ length slot.now }
+fn pair(slot: &[u8; SLOT], i: usize) -> u64
+    requires { i + 8 ≤ slot_size }
     ensures { result ≡ pair_at slot.now i }
 {
-    word(slot, i) + word(slot, i + 4) * 4294967296
-}
-
-// The four octets from a place on as one number, the lowest first, which is read at once.
-fn word(slot: &[u8], i: usize) -> usize
-    requires { i + 4 ≤ length slot.now }
-    ensures { (result ≡ word_at slot.now i) × (result < 4294967296) }
-{
-    octets::wide(slot[i])
-        + octets::wide(slot[i + 1]) * 256
-        + octets::wide(slot[i + 2]) * 65536
-        + octets::wide(slot[i + 3]) * 16777216
+    u64::from_le_bytes(*slot[i..i + 8].as_array().unwrap())
 }

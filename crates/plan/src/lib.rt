@@ -1,14 +1,14 @@
 // The plan table: its layout, its check, which says which record (T-04), and the owner part (01, The plan table; T-01).
 #![tactic(auto)]
 
-ghost use Rattle.std.specs.Prelude.{◌≡◌, true, ◌≤◌, ◌<◌, length};
-ghost use Rattle.octets.specs.Octets.{among};
+ghost use Rattle.std.specs.Prelude.{◌≡◌, ◌==◌, ◌||◌, true, false, ◌≤◌, ◌<◌, MatchOption};
+ghost use Rattle.std.specs.List.{fold};
 ghost use Rattle.plan.specs.First.{some};
-ghost use Rattle.plan.specs.Layout.{record_size, max_records, slot_size, is_dname, count_of, record_at};
+ghost use Rattle.plan.specs.Layout.{max_records, is_dname, count_of, record_at};
 ghost use Rattle.plan.specs.Check.{slot_good, type_good, prefix_good, address_good, target_good, ttl_good, fault_of, first_fault, twin, repeats, first_repeat, check_answer};
-ghost use Rattle.plan.specs.Faults.{replying, placeless, replied, judged};
+ghost use Rattle.plan.specs.Faults.{fault_place, field_number, replying, placeless, replied, judged};
 ghost use Rattle.plan.specs.Marks.{mark_at, Ready};
-ghost use Rattle.plan.specs.Part.{IsPart, empty_part, owner_part};
+ghost use Rattle.plan.specs.Part.{IsPart, owner_part};
 ghost use Rattle.plan.specs.Fields.{one_a6};
 
 use octets::{Answer, Done, Refusal};
@@ -19,10 +19,17 @@ const MAX_RECORDS: usize = 1024;
 // The greatest TTL (T-01).
 const MAX_TTL: u32 = 2147483647;
 
-// The fields of a record, which are numbered from 0, and the one that holds its owner (T-04).
-const FIELDS: u8 = 7;
-
-const OWNER_FIELD: u8 = 4;
+// The fields of a record, in the order of the layout (T-04): `as u8` gives the number.
+#[derive(Clone, Copy, Debug, PartialEq, Eq)]
+pub enum Field {
+    Kind = 0,
+    Prefix = 1,
+    Zero = 2,
+    Address = 3,
+    Owner = 4,
+    Target = 5,
+    Ttl = 6,
+}
 
 // The place of a table's fault (T-04): the index of the record, and the number of its field. Both are 0 where there is no such place.
 #[derive(Clone, Copy, Debug, PartialEq, Eq)]
@@ -91,11 +98,17 @@ impl From<Result<(), Refused>> for Reply {
 }
 
 // A part of a table: where it starts and how many octets it has.
-#[derive(Clone, Copy)]
+#[derive(Clone, Copy, Debug, PartialEq, Eq)]
 pub struct Part {
     pub offset: usize,
     pub length: usize,
 }
+
+// The part of no octets.
+const NO_PART: Part = Part {
+    offset: 0,
+    length: 0,
+};
 
 // Whether a table is in order; else 1, 2 or 3 (01, What comes back), for 2 and 3 with the record and the field (T-04).
 pub fn check(table: &[u8]) -> Result<(), Refused>
@@ -108,18 +121,16 @@ pub fn check(table: &[u8]) -> Result<(), Refused>
     if MAX_RECORDS < n {
         return Err(Refused::from(Refusal::Length));
     }
-    let found = first_fault(table);
-    if (found.index as usize) < n {
+    if let Some(fault) = first_fault(table) {
         return Err(Refused {
             refusal: Refusal::Record,
-            fault: found,
+            fault,
         });
     }
-    let j = first_repeat(table);
-    if j < n {
+    if let Some(index) = first_repeat(table) {
         let fault = Fault {
-            index: j as u32,
-            field: OWNER_FIELD,
+            index: index as u32,
+            field: Field::Owner as u8,
         };
         return Err(Refused {
             refusal: Refusal::Repeat,
@@ -133,23 +144,15 @@ pub fn check(table: &[u8]) -> Result<(), Refused>
 pub fn is_a6(row: &[u8]) -> bool
     ensures { result ≡ one_a6 row.now }
 {
-    if row.len() != inside::RECORD {
-        return false;
-    }
-    if first_field(row) != FIELDS {
-        return false;
-    }
-    inside::kind_of(row) == inside::A6
+    inside::one_a6(row).is_some()
 }
 
 // The part of the table that the owner of a record takes, without the length octet: empty for a bad index and for a table that is not in order.
 pub fn owner(table: &[u8], index: usize) -> &[u8]
     ensures { IsPart table.entry result (owner_part table.now index) }
 {
-    let part = owner_part(table, index);
-    let a = part.offset;
-    let e = a + part.length;
-    &table[a..e]
+    let Part { offset, length } = owner_part(table, index);
+    &table[offset..offset + length]
 }
 
 // Where that part stands: 0 and 0 for the empty one.
@@ -157,114 +160,88 @@ fn owner_part(table: &[u8], index: usize) -> Part
     ensures { result ≡ owner_part table.now index }
 {
     if check(table).is_err() {
-        return nowhere();
+        return NO_PART;
     }
     if inside::count(table) <= index {
-        return nowhere();
+        return NO_PART;
     }
     inside::owner_part(table, index)
 }
 
-// The empty part.
-fn nowhere() -> Part
-    ensures { result ≡ empty_part }
-{
-    Part {
-        offset: 0,
-        length: 0,
-    }
-}
-
-// The index of the first record at fault, and its first field that is; the number of records where none is.
-fn first_fault(table: &[u8]) -> Fault
+// The first record at fault, and its first field that is.
+fn first_fault(table: &[u8]) -> Option<Fault>
     requires { count_of table.now ≤ max_records }
-    ensures { (result.index ≡ first_fault table.now) × (result.index < count_of table.now → result.field ≡ fault_of (record_at table.now result.index)) }
+    ensures { MatchOption result (first_fault table.now ≡ count_of table.now) (λ fault. (fault ≡ fault_place table.now) × (first_fault table.now < count_of table.now)) }
 {
-    let n = inside::count(table);
-    let mut i: usize = 0;
-    while i < n {
-        let field = first_field(inside::row(table, i));
-        if field < FIELDS {
-            return Fault {
-                index: i as u32,
-                field,
-            };
+    for index in 0..inside::count(table) {
+        if let Some(field) = first_field(inside::row(table, index)) {
+            return Some(Fault {
+                index: index as u32,
+                field: field as u8,
+            });
         }
-        i += 1;
     }
-    Fault {
-        index: n as u32,
-        field: 0,
-    }
+    None
 }
 
-// The first field of a record that is at fault; the number of fields where none is.
-fn first_field(row: &[u8]) -> u8
-    requires { length row.now ≡ record_size }
-    ensures { result ≡ fault_of row.now }
+// The first field of a record that is at fault.
+fn first_field(row: &[u8; inside::RECORD]) -> Option<Field>
+    ensures { field_number result ≡ fault_of row.now }
 {
     if !type_good(row) {
-        return 0;
+        return Some(Field::Kind);
     }
     if !prefix_good(row) {
-        return 1;
+        return Some(Field::Prefix);
     }
     if inside::zero_of(row) != 0 {
-        return 2;
+        return Some(Field::Zero);
     }
     if !address_good(row) {
-        return 3;
+        return Some(Field::Address);
     }
     if !slot_good(inside::owner_slot(row)) {
-        return 4;
+        return Some(Field::Owner);
     }
     if !target_good(row) {
-        return 5;
+        return Some(Field::Target);
     }
     if !ttl_good(row) {
-        return 6;
+        return Some(Field::Ttl);
     }
-    FIELDS
+    None
 }
 
 // The type: A6 or DNAME.
-fn type_good(row: &[u8]) -> bool
-    requires { length row.now ≡ record_size }
+fn type_good(row: &[u8; inside::RECORD]) -> bool
     ensures { result ≡ type_good row.now }
 {
-    let kind = inside::kind_of(row);
-    if kind == inside::A6 {
-        return true;
-    }
-    kind == inside::DNAME
+    inside::is_a6(row) || inside::is_dname(row)
 }
 
 // The prefix length: at most 128 for A6, else 0.
-fn prefix_good(row: &[u8]) -> bool
-    requires { length row.now ≡ record_size }
+fn prefix_good(row: &[u8; inside::RECORD]) -> bool
     ensures { result ≡ prefix_good row.now }
 {
     let prefix = inside::prefix_of(row);
-    if inside::kind_of(row) == inside::A6 {
+    if inside::is_a6(row) {
         return prefix <= 128;
     }
     prefix == 0
 }
 
 // The address: its first bits zero, as many as the prefix length for A6, else all of them.
-fn address_good(row: &[u8]) -> bool
-    requires { length row.now ≡ record_size }
+fn address_good(row: &[u8; inside::RECORD]) -> bool
     ensures { result ≡ address_good row.now }
 {
-    if inside::kind_of(row) == inside::A6 {
+    if inside::is_a6(row) {
         return address::is_clear(inside::address_of(row), inside::prefix_of(row));
     }
     address::is_clear(inside::address_of(row), 128)
 }
 
 // The target slot: empty for a finished A6 record, else a name.
-fn target_good(row: &[u8]) -> bool
-    requires { length row.now ≡ record_size }
+fn target_good(row: &[u8; inside::RECORD]) -> bool
     ensures { result ≡ target_good row.now }
 {
     let slot = inside::target_slot(row);
@@ -275,41 +252,34 @@ fn target_good(row: &[u8]) -> bool
 }
 
 // The TTL: at most the greatest.
-fn ttl_good(row: &[u8]) -> bool
-    requires { length row.now ≡ record_size }
+fn ttl_good(row: &[u8; inside::RECORD]) -> bool
     ensures { result ≡ ttl_good row.now }
 {
     inside::ttl_of(row) <= MAX_TTL
 }
 
 // Whether a slot holds a name in standard form that fills its length, and zeros after it.
-fn slot_good(slot: &[u8]) -> bool
-    requires { length slot.now ≡ slot_size }
+fn slot_good(slot: &[u8; inside::SLOT]) -> bool
     ensures { result ≡ slot_good slot.now }
 {
-    if !octets::zeros::is_blank(slot, inside::fill_in(slot)) {
-        return false;
-    }
-    names::is_standard(inside::name_in(slot))
+    octets::zeros::is_blank(slot, inside::fill_in(slot))
+        && names::is_standard(inside::name_in(slot))
 }
 
-// The index of the first DNAME whose owner an earlier DNAME has; the number of records where there is none.
-fn first_repeat(table: &[u8]) -> usize
+// The index of the first DNAME whose owner an earlier DNAME has.
+fn first_repeat(table: &[u8]) -> Option<usize>
     requires { (first_fault table.now ≡ count_of table.now) × (count_of table.now ≤ max_records) }
-    ensures { result ≡ first_repeat table.now }
+    ensures { MatchOption result (first_repeat table.now ≡ count_of table.now) (λ j. (j ≡ first_repeat table.now) × (j < count_of table.now)) }
 {
-    let n = inside::count(table);
     let mut marks = [0u16; MAX_RECORDS];
-    let mut j: usize = 0;
-    while j < n {
-        let m = mark_at(table, j);
-        if repeated(table, j, &marks[..j], m) {
-            return j;
+    for j in 0..inside::count(table) {
+        let mark = mark_at(table, j);
+        if repeated(table, j, &marks[..j], mark) {
+            return Some(j);
         }
-        marks[j] = m;
-        j += 1;
+        marks[j] = mark;
     }
-    n
+    None
 }
 
 // The mark of a DNAME's owner; 0 for any other record.
@@ -317,10 +287,11 @@ fn mark_at(table: &[u8], index: usize) -> u16
     requires { index < count_of table.now }
     ensures { result ≡ mark_at table.now index }
 {
-    if inside::kind(table, index) != inside::DNAME {
-        return 0;
+    let row = inside::row(table, index);
+    if inside::is_dname(row) {
+        return inside::mark(inside::owner_slot(row));
     }
-    inside::mark(inside::owner_slot(inside::row(table, index)))
+    0
 }
 
 // Whether record j is a DNAME whose owner an earlier DNAME has: names are compared only where their marks agree.
@@ -328,29 +299,17 @@ fn repeated(table: &[u8], j: usize, marks: &[u16], m: u16) -> bool
     requires { Ready table.now marks.now j m }
     ensures { result ≡ repeats table.now j }
 {
-    if inside::kind(table, j) != inside::DNAME {
+    if !inside::is_dname(inside::row(table, j)) {
         return false;
     }
-    if has_mark(marks, m) {
-        return has_twin(table, j, marks, m);
-    }
-    false
+    has_mark(marks, m) && has_twin(table, j, marks, m)
 }
 
 // Whether a mark stands among others. Every one is looked at, which is faster than to stop at the first.
 fn has_mark(marks: &[u16], m: u16) -> bool
-    ensures { result ≡ among m marks.now }
+    ensures { result ≡ fold (λ met mark. met || (mark == m)) false marks.now }
 {
-    let n = marks.len();
-    let mut met = false;
-    let mut i: usize = 0;
-    while i < n {
-        if marks[i] == m {
-            met = true;
-        }
-        i += 1;
-    }
-    met
+    marks.iter().fold(false, |met, mark| met | (*mark == m))
 }
 
 // Whether an earlier DNAME has the owner of the DNAME j.
@@ -359,12 +318,10 @@ fn has_twin(table: &[u8], j: usize, marks: &[u16], m: u16) -> bool
     requires j_value { is_dname (record_at table.now j) ≡ true }
     ensures { result ≡ some (twin table.now j) j }
 {
-    let mut i: usize = 0;
-    while i < j {
+    for i in 0..j {
         if is_twin(table, i, j, marks, m) {
             return true;
         }
-        i += 1;
     }
     false
 }
@@ -378,7 +335,7 @@ fn is_twin(table: &[u8], i: usize, j: usize, marks: &[u16], m: u16) -> bool
     if marks[i] != m {
         return false;
     }
-    if inside::kind(table, i) != inside::DNAME {
+    if !inside::is_dname(inside::row(table, i)) {
         return false;
     }
     names::inside::equal(inside::owner(table, i), inside::owner(table, j))

@@ -1,43 +1,48 @@
+-- `plan::first_fault` meets its contract.
+use mathlib.Core.Path.{refl, ◌≡◌, ap, ◌∙◌, sym}
+use Prim.Native.Nat.{ℕ}
+use mathlib.Core.Bool.{true}
 use native.Mathlib.Omega.{arith}
-use mathlib.Core.Path.{◌≡◌, ap, ◌∙◌, sym}
-use Prim.Native.Nat.{ℕ, ◌-◌}
-use mathlib.Core.Bool.{true, false}
-use Rattle.plan.specs.First.{first_from}
-use Rattle.plan.specs.Layout.{count_of}
+use denote.Enum.Declared.{tag_of}
+use Rattle.std.specs.Prelude.{Some}
+use Rattle.plan.specs.contracts.Field.{the_type}
+use Rattle.plan.specs.declared.Field.{Field}
+use Rattle.plan.specs.declared.Field.TheVariants.{Kind, Prefix, Zero, Address, Owner, Target, Ttl}
+use Rattle.plan.specs.Faults.{field_number}
+use borrow.Author.Count.{below_more}
+use Rattle.plan.specs.Layout.{record_at}
 use Rattle.plan.specs.Check.{fault_of, faulty, first_fault}
-use Rattle.plan.proofs.FirstLaws.{first_on, first_here, first_end}
+use Rattle.plan.proofs.FirstLaws.{first_is, none_first}
+use Rattle.plan.proofs.FaultLaws.{number_known}
 use Rattle.plan.proofs.OrderLaws.{faulty_is, faulty_not}
 use Rattle.plan.proofs.first_fault.Goals as goal
 
-pub loop-i-init : goal.loop-i-init
+-- the number of a field, as the code gives it
+number_tag : (f : Field) → tag_of the_type f ≡ field_number (Some f)
+number_tag Kind = refl
+number_tag Prefix = refl
+number_tag Zero = refl
+number_tag Address = refl
+number_tag Owner = refl
+number_tag Target = refl
+number_tag Ttl = refl
+
+pub returns-in-Some : goal.returns-in-Some
 unfolding first_fault
-loop-i-init c =
+returns-in-Some c =
     let t = c.args.table.now in
-    let e : c.count-n.result - 0 ≡ count_of t = omega (arith, c.count-n.ensures) in
-    (omega arith, c.count-n.ensures, ap (λ (k : ℕ). first_from (faulty t) 0 k) e, omega (arith, c.count-n.ensures, c.requires))
+    let i = c.loop-index.index in
+    let e = c.in-Some.ensures ∙ ap fault_of c.row.ensures in
+    let f : faulty t i ≡ true = faulty_is t i (omega (arith, e, number_known c.in-Some.field)) in
+    let n = first_is (faulty t) _ i (omega (arith, c.count-index-end.ensures)) f c.loop-index.invariant in
+    ((λ j. record { index = sym n j; field = (number_tag c.in-Some.field ∙ e ∙ ap (λ (k : ℕ). fault_of (record_at t k)) (sym n)) j }), omega (arith, n, c.count-index-end.ensures))
 
-pub first_field-field-requires : goal.first_field-field-requires
-first_field-field-requires c = c.row.ensures.1
-
-pub returns-then-field-lt-FIELDS : goal.returns-then-field-lt-FIELDS
-returns-then-field-lt-FIELDS c =
+pub loop-index-preserved : goal.loop-index-preserved
+loop-index-preserved c =
     let t = c.args.table.now in
-    let l = c.loop-i in
-    let e = c.first_field-field.ensures ∙ ap fault_of c.row.ensures.0 in
-    let f : faulty t l.i ≡ true = faulty_is t l.i (omega (arith, c.if-field-lt-FIELDS.true, e)) in
-    (sym (first_here (faulty t) l.i c.count-n.result (omega arith) f) ∙ l.invariant.2, λ h. e)
-
-pub loop-i-preserved : goal.loop-i-preserved
-loop-i-preserved c =
-    let t = c.args.table.now in
-    let l = c.loop-i in
-    let e = c.first_field-field.ensures ∙ ap fault_of c.row.ensures.0 in
-    let f : faulty t l.i ≡ false = faulty_not t l.i (omega (arith, c.if-field-lt-FIELDS.false, e)) in
-    (omega arith, l.invariant.1, sym (first_on (faulty t) l.i c.count-n.result (omega arith) f) ∙ l.invariant.2, l.invariant.3)
+    let i = c.loop-index.index in
+    below_more _ _ c.loop-index.invariant (faulty_not t i (omega (arith, c.in_default.ensures, ap fault_of c.row.ensures)))
 
 pub returns : goal.returns
-returns c =
-    let t = c.args.table.now in
-    let l = c.loop-i in
-    let e : c.count-n.result ≡ l.i = omega arith in
-    (e ∙ sym (first_end (faulty t) l.i c.count-n.result (omega arith)) ∙ l.invariant.2, λ h. let z : ⊥ = omega (arith, h, l.invariant.1) in absurd z)
+unfolding first_fault
+returns c = none_first _ _ (λ i h. c.loop-index.invariant i (omega (arith, h, c.count-index-end.ensures)))

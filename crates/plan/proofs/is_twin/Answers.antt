@@ -3,8 +3,7 @@ use native.Mathlib.Omega.{arith}
 use mathlib.Core.Path.{◌≡◌, ap, ◌∙◌, sym}
 use mathlib.Core.Bool.{true}
 use Rattle.names.specs.Standard.{in_standard_form}
-use Rattle.plan.specs.Layout.{record_at}
-use Rattle.plan.proofs.FaultLaws.{type_is, type_not}
+use Rattle.plan.specs.Layout.{is_dname}
 use Rattle.plan.proofs.OrderLaws.{sound_owner}
 use Rattle.plan.proofs.MarkLaws.{twin_other, twin_dname, twin_not}
 use Rattle.plan.proofs.is_twin.Goals.{After-owner-2}
@@ -24,10 +23,10 @@ returns-then-marks-i c =
     let a = c.args in
     sym (twin_not a.table.now a.marks.now a.j a.m c.requires.ready c.requires.i_lt_j.1 a.i c.requires.i_lt_j.0 c.if-marks-i.true)
 
-pub returns-then-kind-ne-DNAME : goal.returns-then-kind-ne-DNAME
-returns-then-kind-ne-DNAME c =
+pub returns-then-not-is_dname : goal.returns-then-not-is_dname
+returns-then-not-is_dname c =
     let a = c.args in
-    sym (twin_other a.table.now a.j a.i (type_not (record_at a.table.now a.i) (λ h. c.if-kind-ne-DNAME.true (c.kind.ensures ∙ h))))
+    sym (twin_other a.table.now a.j a.i (sym (c.is_dname.ensures ∙ ap is_dname c.row.ensures) ∙ c.if-not-is_dname.true))
 
 pub equal-requires : goal.equal-requires
 equal-requires c = standing c
@@ -36,5 +35,5 @@ pub returns : goal.returns
 returns c =
     let a = c.args in
     let t = a.table.now in
-    let d = type_is (record_at t a.i) (sym c.kind.ensures ∙ c.if-kind-ne-DNAME.false) in
+    let d = sym (c.is_dname.ensures ∙ ap is_dname c.row.ensures) ∙ c.if-not-is_dname.false in
     c.equal.ensures ∙ rw (c.owner.ensures, c.owner-2.ensures) (sym (twin_dname t a.j a.i d))

@@ -8,13 +8,13 @@ use Rattle.plan.proofs.owner_part.Goals as goal
 pub returns-then-is_err : goal.returns-then-is_err
 returns-then-is_err c =
     let a = c.args in
-    c.nowhere.ensures ∙ sym (part_refused a.table.now a.index (judged_refused a.table.now c.check.result (sym c.is_err.ensures.value ∙ c.if-is_err.true) c.check.ensures))
+    sym (part_refused a.table.now a.index (judged_refused a.table.now c.check.result (sym c.is_err.ensures.value ∙ c.if-is_err.true) c.check.ensures))
 
 pub returns-then-count-index : goal.returns-then-count-index
 returns-then-count-index c =
     let a = c.args in
     let o = judged_taken a.table.now c.check.result (sym c.is_err.ensures.value ∙ c.if-is_err.false) c.check.ensures in
-    c.nowhere-then-count-index.ensures ∙ sym (part_past a.table.now a.index o (omega (arith, c.count.ensures)))
+    sym (part_past a.table.now a.index o (omega (arith, c.count.ensures)))
 
 pub returns : goal.returns
 returns c =

@@ -1,16 +1,12 @@
 -- `plan::prefix_good` meets its contract.
-use mathlib.Core.Path.{ap, ◌∙◌, sym}
-use Prim.Native.Nat.{ℕ}
-use lib.Dec.{leb, eqb}
-use Rattle.plan.proofs.FaultLaws.{prefix_a6, prefix_other}
+use mathlib.Core.Path.{◌∙◌, sym}
+use Rattle.plan.specs.Check.{prefix_good}
 use Rattle.plan.proofs.prefix_good.Goals as goal
 
-pub returns-then-kind_of-eq-A6 : goal.returns-then-kind_of-eq-A6
-returns-then-kind_of-eq-A6 c =
-    let r = c.args.row.now in
-    ap (λ (k : ℕ). leb k 128) c.prefix_of-prefix.ensures ∙ sym (prefix_a6 r (sym c.kind_of.ensures ∙ c.if-kind_of-eq-A6.true))
+pub returns-then-is_a6 : goal.returns-then-is_a6
+unfolding prefix_good
+returns-then-is_a6 c = let e = sym c.is_a6.ensures ∙ c.if-is_a6.true in rw c.prefix_of-prefix.ensures (sym (rw (prefix_good, e)))
 
 pub returns : goal.returns
-returns c =
-    let r = c.args.row.now in
-    ap (λ (k : ℕ). eqb k 0) c.prefix_of-prefix.ensures ∙ sym (prefix_other r (λ h. c.if-kind_of-eq-A6.false (c.kind_of.ensures ∙ h)))
+unfolding prefix_good
+returns c = let e = sym c.is_a6.ensures ∙ c.if-is_a6.false in rw c.prefix_of-prefix.ensures (sym (rw (prefix_good, e)))

@@ -1,6 +1,10 @@
 -- `plan::inside::alike` meets its contract: eight octets at a time.
 use native.Mathlib.Omega.{arith}
 use mathlib.Core.Path.{◌≡◌, ◌∙◌, sym}
+use lib.ListN.{length}
+use borrow.Author.Rules.{rules}
+use Rattle.octets.specs.Octets.{Small}
+use Rattle.plan.specs.Layout.{slot_size}
 use Rattle.plan.specs.Marks.{pair_at}
 use Rattle.plan.proofs.AlikeLaws.{alike_off, alike_on}
 use Rattle.plan.proofs.inside.alike.Goals.{Else-pair, Else-pair-2, Else-pair-3, Else-pair-4}
@@ -36,4 +40,10 @@ returns c =
     let else_pair_2 = (goal.at.returns c).Else-pair-2 in
     let else_pair_3 = (goal.at.returns c).Else-pair-3 in
     let else_pair_4 = (goal.at.returns c).Else-pair-4 in
-    sym (alike_on c.args.a.now c.args.b.now c.requires.0 c.requires.1 (λ i. (c.shared_slice_known-1.given i).fits) (λ i. (c.shared_slice_known-2-1.given i).fits) (same_1 else_pair) (same_2 else_pair_2) (same_3 else_pair_3) (same_4 else_pair_4))
+    let a = c.args.a.now in
+    let b = c.args.b.now in
+    let k : length a ≡ slot_size = search rules in
+    let l : length b ≡ slot_size = search rules in
+    let m : Small a = λ i. search rules in
+    let n : Small b = λ i. search rules in
+    sym (alike_on a b k l m n (same_1 else_pair) (same_2 else_pair_2) (same_3 else_pair_3) (same_4 else_pair_4))

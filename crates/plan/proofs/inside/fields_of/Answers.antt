@@ -10,6 +10,6 @@ use Rattle.plan.proofs.inside.fields_of.Goals as goal
 pub returns : goal.returns
 unfolding fields_of
 returns c =
-    let owner = c.held_name.ensures ∙ ap (λ (s : List ℕ). name_of (name_in s)) c.owner_slot.ensures.0 in
-    let target = c.held_name-2.ensures ∙ ap (λ (s : List ℕ). name_of (name_in s)) c.target_slot.ensures.0 in
-    λ i. record { prefix = c.prefix_of.ensures i; address = c.held_address.ensures i; owner = owner i; target = target i; ttl = c.ttl_of.ensures i }
+    let owner = c.held_name.ensures ∙ ap (λ (s : List ℕ). name_of (name_in s)) c.owner_slot.ensures in
+    let target = c.held_name-2.ensures ∙ ap (λ (s : List ℕ). name_of (name_in s)) c.target_slot.ensures in
+    λ i. record { prefix = c.prefix_of.ensures i; address = c.address_of.ensures i; owner = owner i; target = target i; ttl = c.ttl_of.ensures i }

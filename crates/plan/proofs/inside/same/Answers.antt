@@ -6,4 +6,4 @@ use Rattle.plan.proofs.inside.same.Goals as goal
 pub returns-then-alike : goal.returns-then-alike
 returns-then-alike c =
     let a = c.args in
-    sym (alike_same a.a.now a.b.now (sym c.alike.ensures ∙ c.if-alike.true))
+    c.if-alike.true ∙ sym (alike_same a.a.now a.b.now (sym c.alike.ensures ∙ c.if-alike.true))

@@ -1,30 +1,36 @@
 -- `plan::inside::write_record` meets its contract: five copies, each where the one before it ended.
-use Prim.Native.Nat.{ℕ, ◌+◌, ◌^◌, ◌<◌}
-use mathlib.Core.Path.{◌≡◌, ap, ◌∙◌}
-use mathlib.Core.List.{List}
-use lib.ListN.{length}
+use Prim.Native.Nat.{ℕ, ◌+◌, ◌/◌, ◌%◌}
+use mathlib.Core.Path.{◌≡◌, refl, ap, ◌∙◌}
+use mathlib.Core.List.{List, [], ◌∷◌}
+use lib.ListN.{length, get_or}
 use lib.Seq.{paste}
-use Rattle.plan.specs.Layout.{address_size, ttl_place, ttl_size}
-use Rattle.plan.proofs.WriteLaws.{record_written}
 use borrow.Author.Rules.{rules}
-use Rattle.plan.proofs.inside.write_record.Goals.{Start}
+use denote.Enum.Declared.{tag_of}
+use Rattle.plan.specs.contracts.inside.Kind.{the_type}
+use Rattle.plan.specs.declared.inside.Kind.{Kind}
+use Rattle.plan.specs.declared.inside.Kind.TheVariants.{A6, Dname}
+use Rattle.plan.specs.Records.{kind_number}
+use Rattle.plan.specs.Layout.{slot_size, address_size, address_place, ttl_place, ttl_size}
+use Rattle.plan.proofs.WriteLaws.{record_written}
 use Rattle.plan.proofs.inside.write_record.Goals as goal
 
--- what the arguments give: an address of sixteen octets, and room up to the record's last field
-sixteen : (s : Start) → length s.args.address ≡ address_size
-sixteen s = search rules
+-- the two octets of a type, of the number that the code gives
+high : (k : Kind) → (tag_of the_type k + 38) / 256 % 256 ≡ kind_number k / 256
+high A6 = refl
+high Dname = refl
 
-room : (s : Start) → s.args.to + ttl_place < 2 ^ 64
-room s = search rules
-
-pub overflow_add-to-4 : goal.overflow_add-to-4
-overflow_add-to-4 c = record { fits = room (goal.at.overflow_add-to-4 c).Start }
+low : (k : Kind) → (tag_of the_type k + 38) % 256 ≡ kind_number k % 256
+low A6 = refl
+low Dname = refl
 
 pub returns : goal.returns
 returns c =
-    let here = (goal.at.returns c).Start in
     let a = c.args in
-    let w = c.requires in
-    record_written a.out.now _ _ _ _ _ a.address a.owner.now a.target.now a.kind a.prefix a.ttl a.to (sixteen here) w.0 w.1 w.2
-    c.copy.ensures c.copy-2.ensures c.copy-3.ensures c.copy-4.ensures
+    let n : length a.address ≡ address_size = search rules in
+    let l : length a.owner.now ≡ slot_size = search rules in
+    let m : length a.target.now ≡ slot_size = search rules in
+    let h = ap (λ (l : List ℕ). get_or l 0 0) c.to_be_bytes.ensures ∙ high a.kind in
+    let w = ap (λ (l : List ℕ). get_or l 1 0) c.to_be_bytes.ensures ∙ low a.kind in
+    record_written a.out.now _ _ _ _ _ a.address a.owner.now a.target.now (kind_number a.kind) a.prefix a.ttl a.to n l m c.requires
+    (c.copy.ensures ∙ λ i. paste a.out.now a.to (h i ∷ w i ∷ a.prefix ∷ 0 ∷ []) address_place) c.copy-2.ensures c.copy-3.ensures c.copy-4.ensures
     (c.copy-5.ensures ∙ ap (λ (v : List ℕ). paste c.copy-4.new.out (a.to + ttl_place) v ttl_size) c.quarter_octets-life.ensures)

@@ -1,0 +1,8 @@
+-- `plan::inside::type_of` meets its contract.
+use borrow.Author.Rules.{rules}
+use Rattle.plan.specs.Layout.{type_of}
+use Rattle.plan.proofs.inside.type_of.Goals as goal
+
+pub returns : goal.returns
+unfolding type_of
+returns c = search rules
