@@ -1,16 +1,16 @@
 -- Laws of clear bits.
 use Prim.Native.Nat.{ℕ, zero, suc, ◌+◌, ◌-◌, ◌*◌, ◌/◌, ◌%◌, ◌^◌, ◌≤◌, ◌<◌, min}
 use mathlib.Core.Path.{◌≡◌, refl, ap, ◌∙◌, sym}
-use mathlib.Core.Bool.{Bool, true, false, ◌&&◌}
+use mathlib.Core.Bool.{Bool, true, false, ◌&&◌, and_assoc}
 use mathlib.Core.List.{List, [], ◌∷◌, ◌++◌}
 use lib.Dec.{eqb, ltb}
-use lib.ListN.{length, get_or, take, drop, drop_of_length-le}
-use lib.Seq.{get_or-take, take-take, drop-cons}
+use lib.ListN.{length, get_or, take, drop}
+use lib.Seq.{get_or-take, take-take}
 use lib.Pow.{pow_pos, mod-pow-add, shr_mod}
 use native.Mathlib.Omega.{arith}
-use native.Mathlib.Numerals.{add-one}
 use native.Mathlib.Nat.{mod-one, zero-mod, zero-div}
 use borrow.Author.Tests.{eqb-true, eqb-false, eq-eqb, ne_eqb, ltb-true, ltb-false}
+use Rattle.std.specs.List.{list_all}
 use Rattle.octets.specs.Octets.{blank, same_by, Small}
 use Rattle.octets.specs.Zeros.{is_blank}
 use Rattle.bits.specs.Bits.{bits_of, unpack}
@@ -89,34 +89,29 @@ unfolding blank clear_to is_blank same_by unpack
 clear_blank n zero = refl
 clear_blank n (suc m) = clear_nought n (blank m) ∙ clear_blank (n - 8) m
 
--- octet i, with what is left of the n bits from there on
-module _ (n i : ℕ) (a : List ℕ) (p : i < length a) where
-  here : clear_to (n - i * 8) (drop i a) ≡ clear_to (n - i * 8) (get_or a i 0 ∷ drop (suc i) a)
-  here = ap (clear_to (n - i * 8)) (drop-cons a i 0 p)
-
-  pub clear_on : get_or a i 0 ≡ 0 → clear_to (n - i * 8) (drop i a) ≡ clear_to (n - (i + 1) * 8) (drop (i + 1) a)
-  clear_on e =
-      let k : n - i * 8 - 8 ≡ n - (i + 1) * 8 = omega arith in
-      here ∙ rw (e, clear_nought (n - i * 8) (drop (suc i) a), k, add-one i)
-
-  pub clear_off : i < n / 8 → get_or a i 0 < 256 → (get_or a i 0 ≡ 0 → ⊥) → clear_to (n - i * 8) (drop i a) ≡ false
-  clear_off q s e =
-      let m : min 8 (n - i * 8) ≡ 8 = omega arith in
-      let w : get_or a i 0 / 1 % 256 ≡ 0 → ⊥ = λ z. e (omega arith) in
-      here ∙ clear_octet (n - i * 8) (get_or a i 0) (drop (suc i) a) ∙ rw (m, ne_eqb (get_or a i 0 / 1 % 256) 0 w)
-
-  pub clear_end : i ≡ n / 8 → get_or a i 0 < 256 → clear_to (n - i * 8) (drop i a) ≡ eqb (get_or a i 0 / 2 ^ (8 - n % 8)) 0
-  clear_end q s =
-      let j : n - i * 8 ≡ n % 8 = omega arith in
-      let m : min 8 (n % 8) ≡ n % 8 = omega arith in
-      let z : n % 8 - 8 ≡ 0 = omega arith in
-      let w : n % 8 + (8 - n % 8) ≡ 8 = omega arith in
-      let t : get_or a i 0 < 2 ^ (n % 8 + (8 - n % 8)) = rw w (omega arith) in
-      here ∙ rw (j, clear_octet (n % 8) (get_or a i 0) (drop (suc i) a), m, z, clear_zero (drop (suc i) a), shr_mod (n % 8) (8 - n % 8) t) (and_true _)
-
-pub clear_out : (n i : ℕ) (a : List ℕ) → length a ≤ i → clear_to n (drop i a) ≡ true
+-- whole octets first: all of them are zero, and what is left of the n bits is clear
+pub clear_split : (n k : ℕ) (a : List ℕ) → Small a → k ≤ n / 8 → clear_to n a ≡ (list_all (λ x. eqb x 0) (take k a) && clear_to (n - k * 8) (drop k a))
 unfolding clear_to is_blank same_by blank unpack
-clear_out n i a h = rw (drop_of_length-le a {i = i} h) refl
+clear_split n zero a s h = let z : n - 0 ≡ n = omega arith in rw z
+clear_split n (suc k) [] s h = refl
+clear_split n (suc k) (x ∷ xs) s h =
+    let m : min 8 n ≡ 8 = omega arith in
+    let y : x / 1 % 256 ≡ x = omega (arith, s 0) in
+    let j : n - 8 - k * 8 ≡ n - suc k * 8 = omega arith in
+    clear_octet n x xs ∙ rw (m, y, clear_split (n - 8) k xs (λ i. s (suc i)) (omega arith), j) (sym (and_assoc (eqb x 0) _ _))
+
+-- the octet that is left, with what is left of the n bits
+pub clear_part : (n x : ℕ) (xs : List ℕ) → n < 8 → x < 256 → clear_to n (x ∷ xs) ≡ eqb (x / 2 ^ (8 - n)) 0
+clear_part n x xs h s =
+    let m : min 8 n ≡ n = omega arith in
+    let z : n - 8 ≡ 0 = omega arith in
+    let w : n + (8 - n) ≡ 8 = omega arith in
+    let t : x < 2 ^ (n + (8 - n)) = rw w (omega arith) in
+    clear_octet n x xs ∙ rw (m, z, clear_zero xs, shr_mod n (8 - n) t) (and_true _)
+
+pub clear_none : (n : ℕ) → clear_to n [] ≡ true
+unfolding clear_to is_blank same_by blank unpack
+clear_none n = refl
 
 -- an address whose first bits are zero is the join of zeros and of itself
 module _ (l : ℕ) (a : List ℕ) (low : l ≤ 128) (long : length a ≡ 16) (small : Small a) where

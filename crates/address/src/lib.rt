@@ -1,77 +1,45 @@
 // Addresses: sixteen octets as 128 bits, bit 0 the highest.
 #![tactic(auto)]
 
-ghost use Rattle.std.specs.Prelude.{◌≡◌, true, false, ◌/◌, ◌%◌, ◌<◌, min, eqb, ltb};
+ghost use Rattle.std.specs.Prelude.{◌≡◌, true, false, ◌/◌, ◌%◌, ◌<◌, eqb, ltb};
 ghost use Rattle.address.specs.Address.{join_of, clear_to};
 ghost use Rattle.address.specs.Picture.{mix};
 ghost use Rattle.address.specs.Order.{order_of};
 
-// How one address stands to another in ascending order.
-#[derive(Clone, Copy)]
-pub enum Order {
-    Before,
-    Same,
-    After,
-}
+use std::cmp::Ordering;
 
 // The first `at` bits of `high`, then the bits of `low` from `at` on; all of `high` from 128 on (01, Chains).
 // By octets (T-05): whole ones of `high` before the octet that the position is in, that one mixed of both, whole ones of `low` after it.
 pub fn join(high: [u8; 16], low: [u8; 16], at: u8) -> [u8; 16]
     ensures { result ≡ join_of high low at }
 {
-    let place = octets::wide(at / 8);
+    let place = usize::from(at / 8);
     // From 128 on the place is past the last octet and no octet is the mixed one; modulo 16 it stays inside the arrays.
     let mixed = mix(high[place % 16], low[place % 16], at % 8);
     let mut out = low;
-    let mut k: usize = 0;
-    while k < 16 {
+    for k in 0..16 {
         out[k] = octet(high[k], mixed, low[k], k, place);
-        k += 1;
     }
     out
 }
 
-// How `a` stands to `b`: by the first octets that differ.
-pub fn compare(a: &[u8], b: &[u8]) -> Order
+// How `a` stands to `b` in ascending order: by the first octets that differ.
+pub fn compare(a: &[u8], b: &[u8]) -> Ordering
     ensures { result ≡ order_of a.now b.now }
 {
-    let n = shorter(a.len(), b.len());
-    let mut i: usize = 0;
-    while i < n {
-        if a[i] < b[i] {
-            return Order::Before;
-        }
-        if b[i] < a[i] {
-            return Order::After;
-        }
-        i += 1;
-    }
-    if a.len() < b.len() {
-        return Order::Before;
-    }
-    if b.len() < a.len() {
-        return Order::After;
-    }
-    Order::Same
+    a.cmp(b)
 }
 
 // Whether the first n bits are zero.
 pub fn is_clear(a: &[u8], n: u8) -> bool
     ensures { result ≡ clear_to n a.now }
 {
-    let whole = octets::wide(n / 8);
-    let end = shorter(whole, a.len());
-    let mut i: usize = 0;
-    while i < end {
-        if a[i] != 0 {
-            return false;
-        }
-        i += 1;
-    }
-    if whole < a.len() {
-        return octets::wide(a[whole]) >> (8 - octets::wide(n % 8)) == 0;
-    }
-    true
+    let whole = usize::from(n / 8);
+    let (whole, rest) = a.split_at(whole.min(a.len()));
+    whole.iter().all(|octet| *octet == 0)
+        && rest
+            .first()
+            .is_none_or(|octet| usize::from(*octet) >> (8 - n % 8) == 0)
 }
 
 // An octet with the first n bits of `high` and the other bits of `low`.
@@ -92,11 +60,4 @@ fn octet(high: u8, mixed: u8, low: u8, k: usize, place: usize) -> u8
         return mixed;
     }
     if k < place { high } else { low }
-}
-
-// The lesser of two lengths.
-fn shorter(x: usize, y: usize) -> usize
-    ensures { result ≡ min x y }
-{
-    if x < y { x } else { y }
 }

@@ -9,8 +9,8 @@ use lib.ListN.{length, get_or}
 use borrow.Author.Tests.{eqb-true, eqb-false}
 use Rattle.octets.specs.Each.{Each}
 use Rattle.octets.proofs.FlatLaws.{each_at}
-use Rattle.address.specs.declared.Order.{Order}
-use Rattle.address.specs.declared.Order.TheVariants.{Before, Same, After}
+use Rattle.std.specs.declared.cmp.Ordering.{Ordering}
+use Rattle.std.specs.declared.cmp.Ordering.TheVariants.{Less, Equal, Greater}
 use Rattle.address.specs.Order.{order_of, Precedes}
 use Rattle.address.proofs.OrderLaws.{same_equal, after_precedes, precedes_irreflexive, precedes_transitive}
 use Rattle.chains.specs.Lists.{In, Distinct, pick}
@@ -30,34 +30,34 @@ unfolding insert
 in_insert v a [] m = m
 in_insert v a (x ∷ l) m = go (order_of x v) (in_insert v a l) m
   where
-    go : (o : Order) → (In a (insert v l) → (a ≡ v) ⊎ In a l) → In a (choose o (x ∷ insert v l) (x ∷ l) (v ∷ x ∷ l)) → (a ≡ v) ⊎ In a (x ∷ l)
-    go Before ih (inl e) = inr (inl e)
-    go Before ih (inr k) = ⊎_elim inl (λ r. inr (inr r)) (ih k)
-    go Same ih k = inr k
-    go After ih k = k
+    go : (o : Ordering) → (In a (insert v l) → (a ≡ v) ⊎ In a l) → In a (choose o (x ∷ insert v l) (x ∷ l) (v ∷ x ∷ l)) → (a ≡ v) ⊎ In a (x ∷ l)
+    go Less ih (inl e) = inr (inl e)
+    go Less ih (inr k) = ⊎_elim inl (λ r. inr (inr r)) (ih k)
+    go Equal ih k = inr k
+    go Greater ih k = k
 
 pub insert_in : (v a : List ℕ) (l : List (List ℕ)) → (a ≡ v) ⊎ In a l → In a (insert v l)
 unfolding insert
 insert_in v a [] m = m
 insert_in v a (x ∷ l) m = go (order_of x v) refl (insert_in v a l) m
   where
-    go : (o : Order) → order_of x v ≡ o → ((a ≡ v) ⊎ In a l → In a (insert v l)) → (a ≡ v) ⊎ In a (x ∷ l) → In a (choose o (x ∷ insert v l) (x ∷ l) (v ∷ x ∷ l))
-    go Before q ih (inl e) = inr (ih (inl e))
-    go Before q ih (inr (inl e)) = inl e
-    go Before q ih (inr (inr k)) = inr (ih (inr k))
-    go Same q ih (inl e) = inl (e ∙ sym (same_equal x v q))
-    go Same q ih (inr k) = k
-    go After q ih k = k
+    go : (o : Ordering) → order_of x v ≡ o → ((a ≡ v) ⊎ In a l → In a (insert v l)) → (a ≡ v) ⊎ In a (x ∷ l) → In a (choose o (x ∷ insert v l) (x ∷ l) (v ∷ x ∷ l))
+    go Less q ih (inl e) = inr (ih (inl e))
+    go Less q ih (inr (inl e)) = inl e
+    go Less q ih (inr (inr k)) = inr (ih (inr k))
+    go Equal q ih (inl e) = inl (e ∙ sym (same_equal x v q))
+    go Equal q ih (inr k) = k
+    go Greater q ih k = k
 
 pub insert_ascending : (v : List ℕ) (l : List (List ℕ)) → Ascending l → Ascending (insert v l)
 unfolding insert
 insert_ascending v [] h = (λ b m. absurd m, tt)
 insert_ascending v (x ∷ l) h = go (order_of x v) refl (insert_ascending v l h.1)
   where
-    go : (o : Order) → order_of x v ≡ o → Ascending (insert v l) → Ascending (choose o (x ∷ insert v l) (x ∷ l) (v ∷ x ∷ l))
-    go Before q ih = (λ b m. ⊎_elim (λ e. rw e q) (h.0 b) (in_insert v b l m), ih)
-    go Same q ih = h
-    go After q ih =
+    go : (o : Ordering) → order_of x v ≡ o → Ascending (insert v l) → Ascending (choose o (x ∷ insert v l) (x ∷ l) (v ∷ x ∷ l))
+    go Less q ih = (λ b m. ⊎_elim (λ e. rw e q) (h.0 b) (in_insert v b l m), ih)
+    go Equal q ih = h
+    go Greater q ih =
         let k : Precedes v x = after_precedes x v q in
         (λ b m. ⊎_elim (λ e. rw e k) (λ o. precedes_transitive v x b k (h.0 b o)) m, h)
 

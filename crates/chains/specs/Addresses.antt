@@ -1,7 +1,7 @@
 -- The addresses of a name in ascending order, each once (01, Chains and What comes back).
 use Rattle.std.specs.Prelude.{ℕ, List, [], ◌∷◌, eqb}
-use Rattle.address.specs.declared.Order.{Order}
-use Rattle.address.specs.declared.Order.TheVariants.{Before, Same, After}
+use Rattle.std.specs.declared.cmp.Ordering.{Ordering}
+use Rattle.std.specs.declared.cmp.Ordering.TheVariants.{Less, Equal, Greater}
 use Rattle.address.specs.Order.{order_of, Precedes}
 use Rattle.chains.specs.Lists.{In, pick}
 use Rattle.chains.specs.Graph.{Graph}
@@ -14,10 +14,10 @@ Ascending [] = Unit
 Ascending (a ∷ l) = ((b : List ℕ) → In b l → Precedes a b) × Ascending l
 
 -- one of three, by how an address stands to another
-abbrev pub choose : {A : Type 0} → Order → A → A → A → A
-choose Before x y z = x
-choose Same x y z = y
-choose After x y z = z
+abbrev pub choose : {A : Type 0} → Ordering → A → A → A → A
+choose Less x y z = x
+choose Equal x y z = y
+choose Greater x y z = z
 
 -- v in its place of an ascending list, unless it is there
 unfoldable pub insert : List ℕ → List (List ℕ) → List (List ℕ)

@@ -31,7 +31,7 @@ use Rattle.octets.proofs.numbers.lesser.Reads as lesser
 use Rattle.octets.proofs.numbers.wide.Reads as numbers-wide
 use Rattle.address.specs.Address.{join_of, clear_to}
 use Rattle.address.specs.Order.{order_of}
-use Rattle.address.specs.declared.Order.{Order}
+use Rattle.std.specs.declared.cmp.Ordering.{Ordering}
 use Rattle.address.proofs.join.Reads as join
 use Rattle.address.proofs.compare.Reads as compare
 use Rattle.address.proofs.is_clear.Reads as is_clear
@@ -158,7 +158,7 @@ pub address_join : (κs : Lfts 0) (high low : List ℕ) (at : ℕ) (r : List ℕ
     → Promises (join.Asked κs) (join.Learnt κs) (high, (low, (at, tt))) r (high, (low, (at, tt))) (r ≡ join_of high low at)
 address_join κs high low at r = plainly
 
-pub address_compare : (κs : Lfts 2) (a b : Bor (List ℕ)) (r : Order)
+pub address_compare : (κs : Lfts 2) (a b : Bor (List ℕ)) (r : Ordering)
     → Promises (compare.Asked κs) (compare.Learnt κs) (a, (b, tt)) r (a, (b, tt)) (r ≡ order_of a.now b.now)
 address_compare κs a b r = plainly
 

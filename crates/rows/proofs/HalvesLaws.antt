@@ -11,7 +11,7 @@ use Rattle.octets.proofs.BoolLaws.{refuted}
 use Rattle.octets.proofs.OctetLaws.{small_take, small_drop}
 use Rattle.bits.proofs.BitLaws.{bits_length, bits_split, pack_full}
 use Rattle.bits.proofs.PackingLaws.{unpack_pack, bits_append, bits_bits, bits_mod}
-use Rattle.address.specs.declared.Order.TheVariants.{Before, Same, After}
+use Rattle.std.specs.declared.cmp.Ordering.TheVariants.{Less, Equal, Greater}
 use Rattle.address.specs.Address.{bits, join_of}
 use Rattle.address.specs.Picture.{mix, join_octets}
 use Rattle.address.specs.Order.{order_of}
@@ -198,15 +198,15 @@ module _ (o : List ℕ) (at : ℕ) (n : at + 16 ≤ length o) (s : Small o) wher
     row_small : Small (take 16 (drop at o))
     row_small = small_take 16 (drop at o) (small_drop at o s)
 
-    pub stands_before : value_of first * 2 ^ 64 + value_of last < h * 2 ^ 64 + l → order_of (take 16 (drop at o)) (address_of h l) ≡ Before
+    pub stands_before : value_of first * 2 ^ 64 + value_of last < h * 2 ^ 64 + l → order_of (take 16 (drop at o)) (address_of h l) ≡ Less
     stands_before p = value_precedes (take 16 (drop at o)) (address_of h l) row_length row_small (address_small h l) (omega (arith, row_value, address_value))
 
-    pub stands_after : h * 2 ^ 64 + l < value_of first * 2 ^ 64 + value_of last → order_of (take 16 (drop at o)) (address_of h l) ≡ After
+    pub stands_after : h * 2 ^ 64 + l < value_of first * 2 ^ 64 + value_of last → order_of (take 16 (drop at o)) (address_of h l) ≡ Greater
     stands_after p =
         precedes_after (take 16 (drop at o)) (address_of h l)
         (value_precedes (address_of h l) (take 16 (drop at o)) (sym row_length) (address_small h l) row_small (omega (arith, row_value, address_value)))
 
-    pub stands_same : value_of first ≡ h → value_of last ≡ l → order_of (take 16 (drop at o)) (address_of h l) ≡ Same
+    pub stands_same : value_of first ≡ h → value_of last ≡ l → order_of (take 16 (drop at o)) (address_of h l) ≡ Equal
     stands_same p q = equal_same (take 16 (drop at o)) (address_of h l) (sym halves ∙ λ i. address_of (p i) (q i))
 
     -- the row is the address where both halves are the same, and only there

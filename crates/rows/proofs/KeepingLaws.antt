@@ -9,8 +9,8 @@ use Rattle.octets.specs.Octets.{blank, flat}
 use Rattle.octets.specs.Each.{Each}
 use Rattle.octets.proofs.BoolLaws.{clash, refuted}
 use Rattle.octets.proofs.OctetLaws.{length_blank}
-use Rattle.address.specs.declared.Order.{Order}
-use Rattle.address.specs.declared.Order.TheVariants.{Before, Same, After}
+use Rattle.std.specs.declared.cmp.Ordering.{Ordering}
+use Rattle.std.specs.declared.cmp.Ordering.TheVariants.{Less, Equal, Greater}
 use Rattle.address.specs.Order.{order_of, Precedes}
 use Rattle.address.proofs.OrderLaws.{same_equal, equal_same, precedes_transitive}
 use Rattle.chains.specs.Addresses.{Ascending, choose, insert}
@@ -28,21 +28,21 @@ unfolding rank
 rank_within v [] = omega arith
 rank_within v (a ∷ l) = go (order_of a v) (rank_within v l)
   where
-    go : (o : Order) → rank v l ≤ length l → choose o (suc (rank v l)) 0 0 ≤ suc (length l)
-    go Before h = omega arith
-    go Same h = omega arith
-    go After h = omega arith
+    go : (o : Ordering) → rank v l ≤ length l → choose o (suc (rank v l)) 0 0 ≤ suc (length l)
+    go Less h = omega arith
+    go Equal h = omega arith
+    go Greater h = omega arith
 
 rank_before : (v : List ℕ) (l : List (List ℕ)) (j : ℕ) → j < rank v l → Precedes (get_or l j []) v
 unfolding rank
 rank_before v [] j h = absurd (omega arith)
 rank_before v (a ∷ l) j h = go (order_of a v) refl j h (λ i. rank_before v l i)
   where
-    go : (o : Order) → order_of a v ≡ o → (j : ℕ) → j < choose o (suc (rank v l)) 0 0 → ((i : ℕ) → i < rank v l → Precedes (get_or l i []) v) → Precedes (get_or (a ∷ l) j []) v
-    go Before e zero k ih = e
-    go Before e (suc j) k ih = ih j (omega arith)
-    go Same e j k ih = absurd (omega arith)
-    go After e j k ih = absurd (omega arith)
+    go : (o : Ordering) → order_of a v ≡ o → (j : ℕ) → j < choose o (suc (rank v l)) 0 0 → ((i : ℕ) → i < rank v l → Precedes (get_or l i []) v) → Precedes (get_or (a ∷ l) j []) v
+    go Less e zero k ih = e
+    go Less e (suc j) k ih = ih j (omega arith)
+    go Equal e j k ih = absurd (omega arith)
+    go Greater e j k ih = absurd (omega arith)
 
 rank_after : (v : List ℕ) (l : List (List ℕ)) (j : ℕ) → Ascending l → j < length l → rank v l ≤ j → Precedes (get_or l j []) v → ⊥
 unfolding rank
@@ -50,16 +50,16 @@ rank_after v [] j s h k p = omega arith
 rank_after v (a ∷ l) j s h k p = go (order_of a v) refl j h k p (λ i. rank_after v l i s.1)
   where
     -- what does not come before v has nothing after it that does
-    late : (o : Order) → order_of a v ≡ o → (o ≡ Before → ⊥) → (j : ℕ) → j < suc (length l) → Precedes (get_or (a ∷ l) j []) v → ⊥
+    late : (o : Ordering) → order_of a v ≡ o → (o ≡ Less → ⊥) → (j : ℕ) → j < suc (length l) → Precedes (get_or (a ∷ l) j []) v → ⊥
     late o e d zero h p = d (sym e ∙ p)
     late o e d (suc j) h p = d (sym e ∙ precedes_transitive a (get_or l j []) v (s.0 (get_or l j []) (in_at l j (omega arith))) p)
 
-    go : (o : Order) → order_of a v ≡ o → (j : ℕ) → j < suc (length l) → choose o (suc (rank v l)) 0 0 ≤ j → Precedes (get_or (a ∷ l) j []) v
+    go : (o : Ordering) → order_of a v ≡ o → (j : ℕ) → j < suc (length l) → choose o (suc (rank v l)) 0 0 ≤ j → Precedes (get_or (a ∷ l) j []) v
         → ((i : ℕ) → i < length l → rank v l ≤ i → Precedes (get_or l i []) v → ⊥) → ⊥
-    go Before e zero h k p ih = omega arith
-    go Before e (suc j) h k p ih = ih j (omega arith) (omega arith) p
-    go Same e j h k p ih = late Same e (λ q. let z : ◌≡◌ {A = ℕ} 0 1 = cc in omega arith) j h p
-    go After e j h k p ih = late After e (λ q. let z : ◌≡◌ {A = ℕ} 0 1 = cc in omega arith) j h p
+    go Less e zero h k p ih = omega arith
+    go Less e (suc j) h k p ih = ih j (omega arith) (omega arith) p
+    go Equal e j h k p ih = late Equal e (λ q. let z : ◌≡◌ {A = ℕ} 0 1 = cc in omega arith) j h p
+    go Greater e j h k p ih = late Greater e (λ q. let z : ◌≡◌ {A = ℕ} 0 1 = cc in omega arith) j h p
 
 -- where it stands in an ascending list
 rank_at : (v : List ℕ) (l : List (List ℕ)) (j : ℕ) → Ascending l → j < length l → get_or l j [] ≡ v → rank v l ≡ j
@@ -98,51 +98,51 @@ module _ (v : List ℕ) (l : List (List ℕ)) (z : List ℕ) (r : Each 16 l) (s 
       go (no h) ih = seek_end (suc most) (flat l ++ z) v a b (omega (arith, h)) ∙ (let e : a ≡ rank v l = omega (arith, h) in e)
 
 -- ---- an address put in its place
-pub insert_found : (v : List ℕ) (l : List (List ℕ)) → rank v l < length l → order_of (get_or l (rank v l) []) v ≡ Same → insert v l ≡ l
+pub insert_found : (v : List ℕ) (l : List (List ℕ)) → rank v l < length l → order_of (get_or l (rank v l) []) v ≡ Equal → insert v l ≡ l
 unfolding rank insert
 insert_found v [] h e = absurd (omega arith)
 insert_found v (a ∷ l) h e = go (order_of a v) refl h e (insert_found v l)
   where
-    go : (o : Order) → order_of a v ≡ o → choose o (suc (rank v l)) 0 0 < suc (length l) → order_of (get_or (a ∷ l) (choose o (suc (rank v l)) 0 0) []) v ≡ Same
-        → (rank v l < length l → order_of (get_or l (rank v l) []) v ≡ Same → insert v l ≡ l)
+    go : (o : Ordering) → order_of a v ≡ o → choose o (suc (rank v l)) 0 0 < suc (length l) → order_of (get_or (a ∷ l) (choose o (suc (rank v l)) 0 0) []) v ≡ Equal
+        → (rank v l < length l → order_of (get_or l (rank v l) []) v ≡ Equal → insert v l ≡ l)
         → choose o (a ∷ insert v l) (a ∷ l) (v ∷ a ∷ l) ≡ a ∷ l
-    go Before q h e ih = ap (λ (m : List (List ℕ)). a ∷ m) (ih (omega arith) e)
-    go Same q h e ih = refl
-    go After q h e ih = absurd (let z : ◌≡◌ {A = ℕ} 0 1 = cc in omega arith)
+    go Less q h e ih = ap (λ (m : List (List ℕ)). a ∷ m) (ih (omega arith) e)
+    go Equal q h e ih = refl
+    go Greater q h e ih = absurd (let z : ◌≡◌ {A = ℕ} 0 1 = cc in omega arith)
 
-pub insert_new : (v : List ℕ) (l : List (List ℕ)) → (rank v l < length l → order_of (get_or l (rank v l) []) v ≡ Same → ⊥)
+pub insert_new : (v : List ℕ) (l : List (List ℕ)) → (rank v l < length l → order_of (get_or l (rank v l) []) v ≡ Equal → ⊥)
     → insert v l ≡ take (rank v l) l ++ (v ∷ drop (rank v l) l)
 unfolding rank insert
 insert_new v [] n = refl
 insert_new v (a ∷ l) n = go (order_of a v) refl n (insert_new v l)
   where
-    go : (o : Order) → order_of a v ≡ o → (choose o (suc (rank v l)) 0 0 < suc (length l) → order_of (get_or (a ∷ l) (choose o (suc (rank v l)) 0 0) []) v ≡ Same → ⊥)
-        → ((rank v l < length l → order_of (get_or l (rank v l) []) v ≡ Same → ⊥) → insert v l ≡ take (rank v l) l ++ (v ∷ drop (rank v l) l))
+    go : (o : Ordering) → order_of a v ≡ o → (choose o (suc (rank v l)) 0 0 < suc (length l) → order_of (get_or (a ∷ l) (choose o (suc (rank v l)) 0 0) []) v ≡ Equal → ⊥)
+        → ((rank v l < length l → order_of (get_or l (rank v l) []) v ≡ Equal → ⊥) → insert v l ≡ take (rank v l) l ++ (v ∷ drop (rank v l) l))
         → choose o (a ∷ insert v l) (a ∷ l) (v ∷ a ∷ l) ≡ take (choose o (suc (rank v l)) 0 0) (a ∷ l) ++ (v ∷ drop (choose o (suc (rank v l)) 0 0) (a ∷ l))
-    go Before q n ih = ap (λ (m : List (List ℕ)). a ∷ m) (ih (λ h e. n (omega arith) e))
-    go Same q n ih = absurd (n (omega arith) q)
-    go After q n ih = refl
+    go Less q n ih = ap (λ (m : List (List ℕ)). a ∷ m) (ih (λ h e. n (omega arith) e))
+    go Equal q n ih = absurd (n (omega arith) q)
+    go Greater q n ih = refl
 
 insert_rows : (v : List ℕ) (l : List (List ℕ)) → length v ≡ 16 → Each 16 l → Each 16 (insert v l)
 unfolding insert
 insert_rows v [] e r = (e, tt)
 insert_rows v (a ∷ l) e r = go (order_of a v) (insert_rows v l e r.1)
   where
-    go : (o : Order) → Each 16 (insert v l) → Each 16 (choose o (a ∷ insert v l) (a ∷ l) (v ∷ a ∷ l))
-    go Before q = (r.0, q)
-    go Same q = r
-    go After q = (e, r)
+    go : (o : Ordering) → Each 16 (insert v l) → Each 16 (choose o (a ∷ insert v l) (a ∷ l) (v ∷ a ∷ l))
+    go Less q = (r.0, q)
+    go Equal q = r
+    go Greater q = (e, r)
 
 pub insert_length : (v : List ℕ) (l : List (List ℕ)) → (length l ≤ length (insert v l)) × (length (insert v l) ≤ suc (length l))
 unfolding insert
 insert_length v [] = (omega arith, omega arith)
 insert_length v (a ∷ l) = go (order_of a v) (insert_length v l)
   where
-    go : (o : Order) → (length l ≤ length (insert v l)) × (length (insert v l) ≤ suc (length l))
+    go : (o : Ordering) → (length l ≤ length (insert v l)) × (length (insert v l) ≤ suc (length l))
         → (suc (length l) ≤ length (choose o (a ∷ insert v l) (a ∷ l) (v ∷ a ∷ l))) × (length (choose o (a ∷ insert v l) (a ∷ l) (v ∷ a ∷ l)) ≤ suc (suc (length l)))
-    go Before h = (omega (arith, h.0), omega (arith, h.1))
-    go Same h = (omega arith, omega arith)
-    go After h = (omega arith, omega arith)
+    go Less h = (omega (arith, h.0), omega (arith, h.1))
+    go Equal h = (omega arith, omega arith)
+    go Greater h = (omega arith, omega arith)
 
 -- the octets of the list with v among them
 module _ (v : List ℕ) (l : List (List ℕ)) (y z : List ℕ) (k : ℕ) (r : Each 16 l) (n : length y ≡ 16) (h : k ≤ length l) where
@@ -203,7 +203,7 @@ module _ (room : ℕ) (v : List ℕ) (t : ℕ) (l : List (List ℕ)) (s : Kept) 
         let z : j ≡ k = sym (rank_at v l j h.ascending q' (same_equal (get_or l j []) v (is_same_lem (order_of (get_or l j []) v) (sym (told j q') ∙ e)))) in
         ap again z ∙ keep_found v t s k (omega (arith, z)) (ap (λ (i : ℕ). is_same (order_of (row s.out i) v)) (sym z) ∙ e) ∙ keep_at_lem v t s k lax place
 
-    module _ (m : k < length l → order_of (get_or l k []) v ≡ Same → ⊥) where
+    module _ (m : k < length l → order_of (get_or l k []) v ≡ Equal → ⊥) where
       absent : k < s.count → is_same (order_of (row s.out k) v) ≡ false
       absent q =
           let q' : k < length l = omega (arith, count) in
@@ -222,29 +222,29 @@ module _ (room : ℕ) (v : List ℕ) (t : ℕ) (l : List (List ℕ)) (s : Kept) 
     past = record { out = s.out; lives = s.lives; count = s.count; full = true }
 
     pub keep_cases : (P : Kept → Type 0)
-        → (k < length l → order_of (get_or l k []) v ≡ Same → P (again k))
-        → ((k < length l → order_of (get_or l k []) v ≡ Same → ⊥) → length l < room → P added)
-        → ((k < length l → order_of (get_or l k []) v ≡ Same → ⊥) → room ≤ length l → P past)
+        → (k < length l → order_of (get_or l k []) v ≡ Equal → P (again k))
+        → ((k < length l → order_of (get_or l k []) v ≡ Equal → ⊥) → length l < room → P added)
+        → ((k < length l → order_of (get_or l k []) v ≡ Equal → ⊥) → room ≤ length l → P past)
         → P (keep_in v t s)
     keep_cases P found new over = go (dec_lt k (length l)) (order_of (get_or l k []) v) refl
       where
-        apart : (k < length l → order_of (get_or l k []) v ≡ Same → ⊥) → Dec (length l < room) → P (keep_in v t s)
+        apart : (k < length l → order_of (get_or l k []) v ≡ Equal → ⊥) → Dec (length l < room) → P (keep_in v t s)
         apart m (yes q) = subst P (keep_new v t s k (absent m) (omega (arith, long, count)) ∙ keep_at_lem v t s k lax place) (new m q)
         apart m (no q) = subst P (keep_over v t s k (absent m) (omega (arith, long, count, q)) ∙ keep_at_lem v t s k lax place) (over m (omega (arith, q)))
 
-        go : Dec (k < length l) → (o : Order) → order_of (get_or l k []) v ≡ o → P (keep_in v t s)
-        go (yes q) Same e = subst P (there k (omega (arith, count)) (told k q ∙ ap is_same e)) (found q e)
-        go (yes q) Before e = apart (λ q f. let z : ◌≡◌ {A = ℕ} 0 1 = cc in omega arith) (dec_lt (length l) room)
-        go (yes q) After e = apart (λ q f. let z : ◌≡◌ {A = ℕ} 0 1 = cc in omega arith) (dec_lt (length l) room)
+        go : Dec (k < length l) → (o : Ordering) → order_of (get_or l k []) v ≡ o → P (keep_in v t s)
+        go (yes q) Equal e = subst P (there k (omega (arith, count)) (told k q ∙ ap is_same e)) (found q e)
+        go (yes q) Less e = apart (λ q f. let z : ◌≡◌ {A = ℕ} 0 1 = cc in omega arith) (dec_lt (length l) room)
+        go (yes q) Greater e = apart (λ q f. let z : ◌≡◌ {A = ℕ} 0 1 = cc in omega arith) (dec_lt (length l) room)
         go (no q) o e = apart (λ p f. q p) (dec_lt (length l) room)
 
     kept_lax : Holds room (insert v l) (keep_in v t s)
     kept_lax = keep_cases (Holds room (insert v l)) found new over
       where
-        found : k < length l → order_of (get_or l k []) v ≡ Same → Holds room (insert v l) (again k)
+        found : k < length l → order_of (get_or l k []) v ≡ Equal → Holds room (insert v l) (again k)
         found q e = subst (λ (m : List (List ℕ)). Holds room m (again k)) (sym (insert_found v l q e)) record { rows = h.rows; ascending = h.ascending; stands = h.stands }
 
-        new : (k < length l → order_of (get_or l k []) v ≡ Same → ⊥) → length l < room → Holds room (insert v l) added
+        new : (k < length l → order_of (get_or l k []) v ≡ Equal → ⊥) → length l < room → Holds room (insert v l) added
         new m q =
             let d = room - length l in
             let e : room - length (insert v l) ≡ d - 1 = omega (arith, longer m) in
@@ -258,7 +258,7 @@ module _ (room : ℕ) (v : List ℕ) (t : ℕ) (l : List (List ℕ)) (s : Kept) 
               stands = inl (refl, omega (arith, count, longer m), omega (arith, longer m), o);
             }
 
-        over : (k < length l → order_of (get_or l k []) v ≡ Same → ⊥) → room ≤ length l → Holds room (insert v l) past
+        over : (k < length l → order_of (get_or l k []) v ≡ Equal → ⊥) → room ≤ length l → Holds room (insert v l) past
         over m q = record {
           rows = insert_rows v l n h.rows;
           ascending = insert_ascending v l h.ascending;

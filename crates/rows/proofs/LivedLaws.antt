@@ -5,8 +5,8 @@ use lib.Seq.{append_snoc, take-append-le, drop-append-le, drop-append-add}
 use Rattle.octets.specs.Octets.{blank, same, flat}
 use Rattle.octets.proofs.BoolLaws.{clash, refuted}
 use Rattle.octets.proofs.SameLaws.{same_eq, same_refl}
-use Rattle.address.specs.declared.Order.{Order}
-use Rattle.address.specs.declared.Order.TheVariants.{Before, Same, After}
+use Rattle.std.specs.declared.cmp.Ordering.{Ordering}
+use Rattle.std.specs.declared.cmp.Ordering.TheVariants.{Less, Equal, Greater}
 use Rattle.address.specs.Order.{order_of, Precedes}
 use Rattle.address.proofs.OrderLaws.{same_equal, equal_same, after_precedes, precedes_irreflexive, precedes_transitive}
 use Rattle.chains.specs.Lists.{In}
@@ -40,51 +40,51 @@ module _ (v : List ℕ) (t : ℕ) (life : List ℕ → ℕ) where
   others (a ∷ l) n = λ i. other a (n a (inl refl)) i ∷ others l (λ b m. n b (inr m)) i
 
   -- v stands in the list: its lifetime alone is lowered
-  beside_found : (l : List (List ℕ)) → Ascending l → rank v l < length l → order_of (get_or l (rank v l) []) v ≡ Same → map life' l ≡ lowered (rank v l) t (map life l)
+  beside_found : (l : List (List ℕ)) → Ascending l → rank v l < length l → order_of (get_or l (rank v l) []) v ≡ Equal → map life' l ≡ lowered (rank v l) t (map life l)
   unfolding rank lowered
   beside_found [] s h e = absurd (omega arith)
   beside_found (a ∷ l) s h e = go (order_of a v) refl h e (beside_found l s.1)
     where
-      go : (o : Order) → order_of a v ≡ o → choose o (suc (rank v l)) 0 0 < suc (length l) → order_of (get_or (a ∷ l) (choose o (suc (rank v l)) 0 0) []) v ≡ Same
-          → (rank v l < length l → order_of (get_or l (rank v l) []) v ≡ Same → map life' l ≡ set (map life l) (rank v l) (min (get_or (map life l) (rank v l) 0) t))
+      go : (o : Ordering) → order_of a v ≡ o → choose o (suc (rank v l)) 0 0 < suc (length l) → order_of (get_or (a ∷ l) (choose o (suc (rank v l)) 0 0) []) v ≡ Equal
+          → (rank v l < length l → order_of (get_or l (rank v l) []) v ≡ Equal → map life' l ≡ set (map life l) (rank v l) (min (get_or (map life l) (rank v l) 0) t))
           → life' a ∷ map life' l
           ≡ set (life a ∷ map life l) (choose o (suc (rank v l)) 0 0) (min (get_or (life a ∷ map life l) (choose o (suc (rank v l)) 0 0) 0) t)
-      go Before q h e ih = λ i. other a (before_other a v q) i ∷ ih (omega arith) e i
-      go Same q h e ih =
+      go Less q h e ih = λ i. other a (before_other a v q) i ∷ ih (omega arith) e i
+      go Equal q h e ih =
           let w : a ≡ v = same_equal a v q in
           let x : life' a ≡ min (life a) t = ap life' w ∙ own ∙ ap (λ (b : List ℕ). min (life b) t) (sym w) in
           let y : map life' l ≡ map life l = others l (λ b m. after_other b v (subst (λ (c : List ℕ). Precedes c b) w (s.0 b m))) in
           λ i. x i ∷ y i
-      go After q h e ih = absurd (let z : ◌≡◌ {A = ℕ} 0 1 = cc in omega arith)
+      go Greater q h e ih = absurd (let z : ◌≡◌ {A = ℕ} 0 1 = cc in omega arith)
 
   -- v is new: the others keep theirs, and it stands among them
-  beside_new : (l : List (List ℕ)) → Ascending l → (rank v l < length l → order_of (get_or l (rank v l) []) v ≡ Same → ⊥)
+  beside_new : (l : List (List ℕ)) → Ascending l → (rank v l < length l → order_of (get_or l (rank v l) []) v ≡ Equal → ⊥)
       → map life' (insert v l) ≡ take (rank v l) (map life l) ++ (life' v ∷ drop (rank v l) (map life l))
   unfolding rank insert
   beside_new [] s n = refl
   beside_new (a ∷ l) s n = go (order_of a v) refl n (beside_new l s.1)
     where
-      go : (o : Order) → order_of a v ≡ o → (choose o (suc (rank v l)) 0 0 < suc (length l) → order_of (get_or (a ∷ l) (choose o (suc (rank v l)) 0 0) []) v ≡ Same → ⊥)
-          → ((rank v l < length l → order_of (get_or l (rank v l) []) v ≡ Same → ⊥) → map life' (insert v l) ≡ take (rank v l) (map life l) ++ (life' v ∷ drop (rank v l) (map life l)))
+      go : (o : Ordering) → order_of a v ≡ o → (choose o (suc (rank v l)) 0 0 < suc (length l) → order_of (get_or (a ∷ l) (choose o (suc (rank v l)) 0 0) []) v ≡ Equal → ⊥)
+          → ((rank v l < length l → order_of (get_or l (rank v l) []) v ≡ Equal → ⊥) → map life' (insert v l) ≡ take (rank v l) (map life l) ++ (life' v ∷ drop (rank v l) (map life l)))
           → map life' (choose o (a ∷ insert v l) (a ∷ l) (v ∷ a ∷ l))
           ≡ take (choose o (suc (rank v l)) 0 0) (life a ∷ map life l) ++ (life' v ∷ drop (choose o (suc (rank v l)) 0 0) (life a ∷ map life l))
-      go Before q n ih = λ i. other a (before_other a v q) i ∷ ih (λ h e. n (omega arith) e) i
-      go Same q n ih = absurd (n (omega arith) q)
-      go After q n ih =
+      go Less q n ih = λ i. other a (before_other a v q) i ∷ ih (λ h e. n (omega arith) e) i
+      go Equal q n ih = absurd (n (omega arith) q)
+      go Greater q n ih =
           let p : Precedes v a = after_precedes a v q in
           let y : map life' l ≡ map life l = others l (λ b m. after_other b v (precedes_transitive v a b p (s.0 b m))) in
           λ i. life' v ∷ other a (after_other a v p) i ∷ y i
 
 -- an address that is not found at its place is not in the list
-not_listed : (v : List ℕ) (l : List (List ℕ)) → Ascending l → (rank v l < length l → order_of (get_or l (rank v l) []) v ≡ Same → ⊥) → In v l → ⊥
+not_listed : (v : List ℕ) (l : List (List ℕ)) → Ascending l → (rank v l < length l → order_of (get_or l (rank v l) []) v ≡ Equal → ⊥) → In v l → ⊥
 unfolding rank
 not_listed v [] s n x3 = elim x3 [ ]
 not_listed v (a ∷ l) s n (inl e) =
-    let q : order_of a v ≡ Same = equal_same a v (sym e) in
-    let z : choose (order_of a v) (suc (rank v l)) 0 0 ≡ 0 = ap (λ (o : Order). choose o (suc (rank v l)) 0 0) q in
+    let q : order_of a v ≡ Equal = equal_same a v (sym e) in
+    let z : choose (order_of a v) (suc (rank v l)) 0 0 ≡ 0 = ap (λ (o : Ordering). choose o (suc (rank v l)) 0 0) q in
     n (omega (arith, z)) (ap (λ (k : ℕ). order_of (get_or (a ∷ l) k []) v) z ∙ q)
 not_listed v (a ∷ l) s n (inr m) =
-    let z : choose (order_of a v) (suc (rank v l)) 0 0 ≡ suc (rank v l) = ap (λ (o : Order). choose o (suc (rank v l)) 0 0) (s.0 v m) in
+    let z : choose (order_of a v) (suc (rank v l)) 0 0 ≡ suc (rank v l) = ap (λ (o : Ordering). choose o (suc (rank v l)) 0 0) (s.0 v m) in
     not_listed v l s.1 (λ h e. n (omega (arith, z)) (ap (λ (k : ℕ). order_of (get_or (a ∷ l) k []) v) z ∙ e)) m
 
 -- a number lowered among those in front
@@ -121,13 +121,13 @@ module _ (room : ℕ) (v : List ℕ) (t : ℕ) (l : List (List ℕ)) (s : Kept) 
   Beside c = c.full ≡ false → c.lives ≡ map (shortened v t life) (insert v l) ++ blank (room - length (insert v l))
 
   module _ (lax : s.full ≡ false) (count : s.count ≡ length l) (fits : length l ≤ room) (out : s.out ≡ flat l ++ blank ((room - length l) * 16)) where
-    found : k < length l → order_of (get_or l k []) v ≡ Same → lowered k t s.lives ≡ map (shortened v t life) (insert v l) ++ blank (room - length (insert v l))
+    found : k < length l → order_of (get_or l k []) v ≡ Equal → lowered k t s.lives ≡ map (shortened v t life) (insert v l) ++ blank (room - length (insert v l))
     found q e =
         ap (lowered k t) (lived.beside lax) ∙ lowered_front k t (map life l) (blank (room - length l)) (omega (arith, length-map l life))
         ∙ (λ i. sym (beside_found v t life l h.ascending q e) i ++ blank (room - length l))
         ∙ ap (λ (m : List (List ℕ)). map (shortened v t life) m ++ blank (room - length m)) (sym (insert_found v l q e))
 
-    new : (k < length l → order_of (get_or l k []) v ≡ Same → ⊥) → length l < room
+    new : (k < length l → order_of (get_or l k []) v ≡ Equal → ⊥) → length l < room
         → put_at 1 k s.count (t ∷ []) s.lives ≡ map (shortened v t life) (insert v l) ++ blank (room - length (insert v l))
     new m q =
         let d = room - length l in

@@ -4,10 +4,10 @@ use lib.ListN.{get_or-append}
 use lib.Seq.{take-append-le, append_snoc, set_at, set-get_or, paste, take-paste, drop-paste}
 use types.Run.{OneOf}
 use denote.Enum.Declared.{tag_of}
-use Rattle.address.specs.contracts.Order.{the_type}
+use Rattle.std.specs.contracts.cmp.Ordering.{the_type}
 use borrow.Author.Tests.{lt-leb}
-use Rattle.address.specs.declared.Order.{Order}
-use Rattle.address.specs.declared.Order.TheVariants.{Before, Same, After}
+use Rattle.std.specs.declared.cmp.Ordering.{Ordering}
+use Rattle.std.specs.declared.cmp.Ordering.TheVariants.{Less, Equal, Greater}
 use Rattle.address.specs.Order.{order_of}
 use Rattle.octets.specs.Numbers.{octets_of}
 use Rattle.octets.proofs.BoolLaws.{clash}
@@ -22,24 +22,24 @@ seek_end zero out v a b h = refl
 seek_end (suc most) out v a b h = rw (seek, le-ltb a b h)
 
 module _ (most : ℕ) (out v : List ℕ) (a b : ℕ) (h : a < b) where
-  pub seek_right : order_of (row out ((a + b) / 2)) v ≡ Before → seek (suc most) out v a b ≡ seek most out v ((a + b) / 2 + 1) b
+  pub seek_right : order_of (row out ((a + b) / 2)) v ≡ Less → seek (suc most) out v a b ≡ seek most out v ((a + b) / 2 + 1) b
   unfolding seek
   seek_right e = rw (seek, lt-ltb a b h, e)
 
-  pub seek_left : (order_of (row out ((a + b) / 2)) v ≡ Before → ⊥) → seek (suc most) out v a b ≡ seek most out v a ((a + b) / 2)
+  pub seek_left : (order_of (row out ((a + b) / 2)) v ≡ Less → ⊥) → seek (suc most) out v a b ≡ seek most out v a ((a + b) / 2)
   unfolding seek
   seek_left n = rw (seek, lt-ltb a b h) (go (order_of (row out ((a + b) / 2)) v) n)
     where
-      go : (o : Order) → (o ≡ Before → ⊥)
-          → elim o [ Before ↦ seek most out v ((a + b) / 2 + 1) b | Same ↦ seek most out v a ((a + b) / 2) | After ↦ seek most out v a ((a + b) / 2) ]
+      go : (o : Ordering) → (o ≡ Less → ⊥)
+          → elim o [ Less ↦ seek most out v ((a + b) / 2 + 1) b | Equal ↦ seek most out v a ((a + b) / 2) | Greater ↦ seek most out v a ((a + b) / 2) ]
           ≡ seek most out v a ((a + b) / 2)
-      go Before d = absurd (d refl)
-      go Same d = refl
-      go After d = refl
+      go Less d = absurd (d refl)
+      go Equal d = refl
+      go Greater d = refl
 
 -- what a `match` says of the arms that are not named
-pub not_before : (o : Order) → OneOf (1 ∷ 2 ∷ []) (tag_of the_type o) → o ≡ Before → ⊥
-not_before o k e = ⊎_elim (λ q. omega arith) (λ q. omega arith) (subst (λ (v : Order). OneOf (1 ∷ 2 ∷ []) (tag_of the_type v)) e k)
+pub not_before : (o : Ordering) → OneOf (1 ∷ 2 ∷ []) (tag_of the_type o) → o ≡ Less → ⊥
+not_before o k e = ⊎_elim (λ q. omega arith) (λ q. omega arith) (subst (λ (v : Ordering). OneOf (1 ∷ 2 ∷ []) (tag_of the_type v)) e k)
 
 -- what is left to seek, from a to b, comes to what all of it comes to, r
 pub record Seeking (out v : List ℕ) (r a b : ℕ) : Type 0 where
@@ -63,10 +63,10 @@ module _ (out v : List ℕ) (r : ℕ) where
         let e : suc less ≡ s.most = let q = s.enough in omega arith in
         ap (λ (n : ℕ). seek n out v a b) e ∙ s.comes
 
-    pub seeking_right : order_of (row out ((a + b) / 2)) v ≡ Before → Seeking out v r ((a + b) / 2 + 1) b
+    pub seeking_right : order_of (row out ((a + b) / 2)) v ≡ Less → Seeking out v r ((a + b) / 2 + 1) b
     seeking_right e = record { most = less; enough = let q = s.enough in omega arith; comes = sym (seek_right less out v a b h e) ∙ whole }
 
-    pub seeking_left : (order_of (row out ((a + b) / 2)) v ≡ Before → ⊥) → Seeking out v r a ((a + b) / 2)
+    pub seeking_left : (order_of (row out ((a + b) / 2)) v ≡ Less → ⊥) → Seeking out v r a ((a + b) / 2)
     seeking_left n = record { most = less; enough = let q = s.enough in omega arith; comes = sym (seek_left less out v a b h n) ∙ whole }
 
 -- ---- what stands moved up by a row, one at a time from the last
@@ -194,10 +194,10 @@ unfolding lowered
 lowered_none l k t h = sym (ap (set l k) (let e : min (get_or l k 0) t ≡ get_or l k 0 = omega arith in e) ∙ set-get_or l k 0)
 
 -- ---- keeping an address, case by case
-pub is_same_lem : (o : Order) → is_same o ≡ true → o ≡ Same
-is_same_lem Before h = absurd (clash h refl)
-is_same_lem Same h = refl
-is_same_lem After h = absurd (clash h refl)
+pub is_same_lem : (o : Ordering) → is_same o ≡ true → o ≡ Equal
+is_same_lem Less h = absurd (clash h refl)
+is_same_lem Equal h = refl
+is_same_lem Greater h = absurd (clash h refl)
 
 module _ (v : List ℕ) (t : ℕ) (s : Kept) where
   pub keep_full : s.full ≡ true → s ≡ keep_in v t s

@@ -3,8 +3,8 @@
 use Rattle.std.specs.Prelude.{◌≡◌, ℕ, zero, suc, ◌+◌, ◌-◌, ◌*◌, ◌/◌, ◌<◌, ◌≤◌, min, Bool, true, false, ◌&&◌, ◌⊎◌, List, [], ◌∷◌, ◌++◌, map, length, take, drop, ◌==◌, nat_le, nat_lt, slice_index, slice_range, slice_set}
 use Rattle.octets.specs.Octets.{blank, same, flat}
 use Rattle.octets.specs.Each.{Each}
-use Rattle.address.specs.declared.Order.{Order}
-use Rattle.address.specs.declared.Order.TheVariants.{Before, Same, After}
+use Rattle.std.specs.declared.cmp.Ordering.{Ordering}
+use Rattle.std.specs.declared.cmp.Ordering.TheVariants.{Less, Equal, Greater}
 use Rattle.address.specs.Order.{order_of}
 use Rattle.chains.specs.Lists.{In, pick}
 use Rattle.chains.specs.Graph.{max_ttl}
@@ -20,9 +20,9 @@ seek zero out v a b = a
 seek (suc most) out v a b =
     elim (nat_lt a b) [
       | true ↦ elim (order_of (row out ((a + b) / 2)) v) [
-        | Before ↦ seek most out v ((a + b) / 2 + 1) b
-        | Same ↦ seek most out v a ((a + b) / 2)
-        | After ↦ seek most out v a ((a + b) / 2)
+        | Less ↦ seek most out v ((a + b) / 2 + 1) b
+        | Equal ↦ seek most out v a ((a + b) / 2)
+        | Greater ↦ seek most out v a ((a + b) / 2)
       ]
       | false ↦ a
     ]
@@ -57,10 +57,10 @@ max_figures = 2 + max_hints
 abbrev pub kept : List ℕ → List ℕ → List ℕ → Kept
 kept out lives figures = record { out = out; lives = lives; count = slice_index figures 0; full = (slice_index figures 1 == 1) }
 
-abbrev pub is_same : Order → Bool
-is_same Before = false
-is_same Same = true
-is_same After = false
+abbrev pub is_same : Ordering → Bool
+is_same Less = false
+is_same Equal = true
+is_same Greater = false
 
 -- v at the row k with the lifetime t; where it stands there, its lifetime becomes t if that is less; where there is no room, that is marked
 unfoldable pub keep_at : ℕ → List ℕ → ℕ → Kept → Kept

@@ -4,7 +4,7 @@ ghost use Rattle.address.specs.Order.{order_of};
 ghost use Rattle.rows.specs.Halves.{address_of};
 ghost use Rattle.rows.specs.Rows.{seek, moved, put_at, lowered, max_hints, max_figures, kept, is_same, keep_at, keep_in, Ordered};
 
-use address::Order;
+use std::cmp::Ordering;
 
 // How many hints there are, and the figures: the count, the mark, then the hints (specs/Rows). A hint is the row where an address was
 // last sought; whatever it is, the same is kept.
@@ -13,25 +13,25 @@ const HINTS: usize = 256;
 pub const FIGURES: usize = 2 + HINTS;
 
 // How the row at an octet stands to an address.
-fn stands(out: &[u8], at: usize, high: u64, low: u64) -> Order
+fn stands(out: &[u8], at: usize, high: u64, low: u64) -> Ordering
     requires { at + 16 ≤ length out.now }
     ensures { result ≡ order_of (take 16 (drop at out.now)) (address_of high low) }
 {
     let h = octets::inside::half(out, at);
     if h < high {
-        return Order::Before;
+        return Ordering::Less;
     }
     if high < h {
-        return Order::After;
+        return Ordering::Greater;
     }
     let l = octets::inside::half(out, at + 8);
     if l < low {
-        return Order::Before;
+        return Ordering::Less;
     }
     if low < l {
-        return Order::After;
+        return Ordering::Greater;
     }
-    Order::Same
+    Ordering::Equal
 }
 
 // Whether the row at an octet is an address.
@@ -56,7 +56,7 @@ fn place(out: &[u8], count: usize, high: u64, low: u64) -> usize
         let middle = (from + to) / 2;
         let order = stands(out, middle * 16, high, low);
         match order {
-            Order::Before => {
+            Ordering::Less => {
                 from = middle + 1;
             }
             _ => {

@@ -21,7 +21,7 @@ long : (c : Start) → length (join_of c.args.high c.args.low c.args.at) ≡ 16
 long c = join_length c.args.high c.args.low c.args.at (search rules) (search rules)
 
 pub loop-k-init : goal.loop-k-init
-loop-k-init c = (omega arith, search rules, refl)
+loop-k-init c = (search rules, refl)
 
 pub loop-k-preserved : goal.loop-k-preserved
 loop-k-preserved c =
@@ -29,10 +29,9 @@ loop-k-preserved c =
     let l = c.loop-k in
     let a = c.args in
     let n = long here in
-    let e = octet_chosen a.high a.low a.at (search rules) (search rules) (small_high here) (small_low here) l.k c.wide-place.result c.mix-mixed.result c.octet.result (omega arith) c.wide-place.ensures.0 c.mix-mixed.ensures c.octet.ensures in (
-      omega arith,
-      simp length-set l.invariant.1,
-      same_more l.out (join_of a.high a.low a.at) l.k c.octet.result (omega arith) (omega arith) l.invariant.2 e,
+    let e = octet_chosen a.high a.low a.at (search rules) (search rules) (small_high here) (small_low here) l.k c.from-place.result c.mix-mixed.result c.octet.result (omega arith) c.from-place.ensures c.mix-mixed.ensures c.octet.ensures in (
+      simp length-set l.invariant.0,
+      same_more l.out (join_of a.high a.low a.at) l.k c.octet.result (omega arith) (omega arith) l.invariant.1 e,
     )
 
 pub returns : goal.returns
@@ -41,4 +40,4 @@ returns c =
     let l = c.loop-k in
     let a = c.args in
     let n = long here in
-    same_all l.out (join_of a.high a.low a.at) l.k (omega arith) (omega arith) l.invariant.2
+    same_all l.out (join_of a.high a.low a.at) l.k (omega arith) (omega arith) l.invariant.1

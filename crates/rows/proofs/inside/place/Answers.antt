@@ -8,17 +8,17 @@ loop-from-init c =
     let a = c.args in
     (omega arith, omega arith, seeking_start a.out.now (address_of a.high a.low) a.count)
 
-pub loop-from-preserved-in-Before : goal.loop-from-preserved-in-Before
-loop-from-preserved-in-Before c =
+pub loop-from-preserved-in-Less : goal.loop-from-preserved-in-Less
+loop-from-preserved-in-Less c =
     let a = c.args in
     let l = c.loop-from in
-    (omega arith, l.invariant.1, seeking_right a.out.now (address_of a.high a.low) _ l.from l.to c.loop-from-test.true l.invariant.2 (sym c.in-Before.ensures))
+    (omega arith, l.invariant.1, seeking_right a.out.now (address_of a.high a.low) _ l.from l.to c.loop-from-test.true l.invariant.2 (sym c.in-Less.ensures))
 
 pub loop-from-preserved : goal.loop-from-preserved
 loop-from-preserved c =
     let a = c.args in
     let l = c.loop-from in
-    (omega arith, omega arith, seeking_left a.out.now (address_of a.high a.low) _ l.from l.to c.loop-from-test.true l.invariant.2 (λ e. c.in_default.not-Before (c.stands-order.ensures ∙ e)))
+    (omega arith, omega arith, seeking_left a.out.now (address_of a.high a.low) _ l.from l.to c.loop-from-test.true l.invariant.2 (λ e. c.in_default.not-Less (c.stands-order.ensures ∙ e)))
 
 pub returns : goal.returns
 returns c =
