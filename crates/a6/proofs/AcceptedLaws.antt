@@ -1,20 +1,21 @@
 -- Laws of the values that a writer takes, and of how it lays data down: the same for every layout.
-use Prim.Native.Nat.{ℕ, ◌+◌, ◌-◌, ◌≤◌, ◌<◌}
+use Prim.Native.Nat.{ℕ, ◌+◌, ◌-◌, ◌/◌, ◌≤◌, ◌<◌, max}
 use mathlib.Core.Path.{◌≡◌, refl, ap, ◌∙◌, sym}
-use mathlib.Core.Bool.{true, false, not}
+use mathlib.Core.Bool.{Bool, true, false, not}
 use mathlib.Core.List.{List, [], ◌∷◌, ◌++◌, append_assoc}
 use lib.Dec.{ltb, eqb}
 use lib.ListN.{length, take, drop, set, length-append, length-drop}
 use lib.Seq.{take-append_seam, drop-append_seam, take_at, take-length, length-take-le, drop-append-add, drop-drop, paste}
 use native.Mathlib.Omega.{arith}
-use native.Mathlib.Nat.{zero-add}
+use borrow.Rule.Slice.PartMut.{put_mid}
+use Rattle.std.proofs.lemmas.Slice.{put_mid-paste}
 use borrow.Author.Tests.{lt-ltb, le-ltb, eq-eqb, ne_eqb, ltb-false, not-false}
 use Rattle.octets.specs.Octets.{blank}
 use Rattle.octets.specs.Zeros.{is_blank}
-use Rattle.octets.specs.Answers.{or_else, answer_by, out_by}
+use Rattle.octets.specs.Answers.{or_else, answering, refusal, answer_by, out_by}
 use Rattle.octets.proofs.OctetLaws.{length_blank, drop_blank}
 use Rattle.octets.proofs.SameLaws.{same_refl}
-use Rattle.octets.proofs.AnswerLaws.{earns_zero, else_zero, else_later}
+use Rattle.octets.proofs.AnswerLaws.{earns_zero, else_zero, else_later, not_nought, refused_answer, refused_out, done_answer, done_out}
 use Rattle.names.specs.Name.{name_of}
 use Rattle.names.specs.Standard.{in_standard_form}
 use Rattle.address.specs.Address.{clear_to}
@@ -115,6 +116,9 @@ paste_over out front xs a e =
     let l : length (front ++ xs) ≡ a + n = length-append front xs ∙ ap (λ (k : ℕ). k + n) e in
     rw (e, take_at front (drop a out) a e, take-length xs, f, l)
 
+put_over : (out front xs : List ℕ) (a k : ℕ) → length front ≡ a → k ≡ length xs → put_mid a k (over out front) xs ≡ over out (front ++ xs)
+put_over out front xs a k e n = put_mid-paste a k (over out front) xs xs (length xs) refl (sym n) refl ∙ paste_over out front xs a e
+
 -- and one octet
 set_over : (out front : List ℕ) (x : ℕ) → length front < length out → set (over out front) (length front) x ≡ over out (front ++ (x ∷ []))
 set_over out front x h = go out front h
@@ -129,27 +133,84 @@ module _ (x : ℕ) (address : List ℕ) (before after : ℕ) (name : List ℕ) (
   front : length (take before address) ≡ before
   front = length-take-le before address (omega arith)
 
-  back : length (drop after address) ≡ 16 - after
-  back = length-drop after address ∙ rw long
+  back_lem : length (drop after address) ≡ 16 - after
+  back_lem = length-drop after address ∙ rw long
 
   pub laid_length : length (laid x address before after name) ≡ before + 1 + (16 - after) + length name
-  laid_length = length-append (take before address) (x ∷ (drop after address ++ name)) ∙ omega (arith, front, back, length-append (drop after address) name)
+  laid_length = length-append (take before address) (x ∷ (drop after address ++ name)) ∙ omega (arith, front, back_lem, length-append (drop after address) name)
 
-  pub laid_over : (out : List ℕ) → before < length out
-      → paste (paste (set (paste out 0 address before) before x) (before + 1) (drop after address) (16 - after)) (before + 1 + (16 - after)) name (length name)
-      ≡ over out (laid x address before after name)
-  laid_over out h =
+  -- as the code lays it over zeros: the octets of the address in two parts, `back` and `size` of them counted, the prefix length between them, the name last
+  pub laid_over : (out : List ℕ) (back size : ℕ) → before < length out → back ≡ 16 - after → size ≡ length name
+      → put_mid (before + 1 + (16 - after)) size (put_mid (before + 1) back (set (take before address ++ drop before out) before x) (drop after address)) name ≡ over out (laid x address before after name)
+  laid_over out back size h p q =
       let one = take before address ++ (x ∷ []) in
       let k : length one ≡ before + 1 = length-append (take before address) (x ∷ []) ∙ rw front in
-      let m : length (one ++ drop after address) ≡ before + 1 + (16 - after) = length-append one (drop after address) ∙ rw (k, back) in
-      let f : paste out 0 address before ≡ over out (take before address) = rw (front, zero-add before) in
+      let m : length (one ++ drop after address) ≡ before + 1 + (16 - after) = length-append one (drop after address) ∙ rw (k, back_lem) in
+      let f : take before address ++ drop before out ≡ over out (take before address) = ap (λ (n : ℕ). take before address ++ drop n out) (sym front) in
       let g : set (over out (take before address)) before x ≡ over out one = ap (λ (n : ℕ). set (over out (take before address)) n x) (sym front) ∙ set_over out (take before address) x (omega (arith, front)) in
-      let p : paste (over out one) (before + 1) (drop after address) (16 - after) ≡ over out (one ++ drop after address) = ap (paste (over out one) (before + 1) (drop after address)) (sym back) ∙ paste_over out one (drop after address) (before + 1) k in
+      let w = put_over out one (drop after address) (before + 1) back k (p ∙ sym back_lem) in
       let a : (one ++ drop after address) ++ name ≡ laid x address before after name = append_assoc one (drop after address) name ∙ append_assoc (take before address) (x ∷ []) (drop after address ++ name) in
-      rw (f, g, p, paste_over out (one ++ drop after address) name (before + 1 + (16 - after)) m) (ap (over out) a)
+      rw (f, g, w, put_over out (one ++ drop after address) name (before + 1 + (16 - after)) size m q) (ap (over out) a)
 
 pub over_blank : (out xs : List ℕ) (room : ℕ) → out ≡ blank room → over out xs ≡ xs ++ blank (room - length xs)
 over_blank out xs room z = rw (z, drop_blank (length xs) room)
+
+-- the same tests, of a value whose name the code lends
+module _ (v : Value) (name : List ℕ) (n : name ≡ take v.name.length v.name.octets) (low : v.prefix ≤ 128) where
+  lent : (b : Bool) → b ≡ name_fits v.prefix name → name_fits v.prefix (octets_of v.name) ≡ b
+  unfolding octets_of
+  lent b e = sym (e ∙ ap (name_fits v.prefix) n)
+
+  module _ (b : Bool) (e : b ≡ name_fits v.prefix name) where
+    pub lent_name : b ≡ false → 12 ≡ value_number v
+    lent_name f = sym (value_name v low (lent b e ∙ f))
+
+    module _ (f : b ≡ true) (count : ℕ) (m : count ≡ v.name.length) (z : Bool) (g : z ≡ is_blank (drop count v.name.octets)) where
+      filling : zero_filled v.name ≡ z
+      filling = sym (g ∙ ap (λ (k : ℕ). is_blank (drop k v.name.octets)) m)
+
+      pub lent_filled : z ≡ false → 12 ≡ value_number v
+      lent_filled h = sym (value_filled v low (lent b e ∙ f) (filling ∙ h))
+
+      module _ (h : z ≡ true) (c : Bool) (k : c ≡ clear_to v.prefix v.address) where
+        pub lent_clear : c ≡ false → 12 ≡ value_number v
+        lent_clear d = sym (value_clear v low (lent b e ∙ f) (filling ∙ h) (sym k ∙ d))
+
+        pub lent_done : c ≡ true → 0 ≡ value_number v
+        lent_done d = sym (value_done v (record { low = low; fits = lent b e ∙ f; filled = filling ∙ h; clear = sym k ∙ d }))
+
+-- a value's data as the code makes it, where `after` and the name are as it has them
+module _ (v : Value) (before after : ℕ) (name : List ℕ) (long : length v.address ≡ 16) (b : before ≤ 16) (low : v.prefix ≤ 128) (a : after ≡ max before (v.prefix / 8)) (n : name ≡ take v.name.length v.name.octets) where
+  data_is : laid v.prefix v.address before after name ≡ laid_of v before
+  unfolding octets_of
+  data_is = λ i. laid v.prefix v.address before (a i) (n i)
+
+  pub data_size : before + 1 + (16 - after) + length name ≡ length (laid_of v before)
+  data_size = sym (laid_length v.prefix v.address before after name long b (omega (arith, a))) ∙ ap length data_is
+
+  module _ (out : List ℕ) (z : out ≡ blank (length out)) where
+    -- without room
+    pub data_short : length out < before + 1 + (16 - after) + length name
+        → (refusal 7 ≡ answer_by (room_number (laid_of v before) (length out)) (length (laid_of v before)) 0) × (out ≡ out_by (room_number (laid_of v before) (length out)) (laid_of v before) (length out))
+    data_short h =
+        let e = room_short (laid_of v before) (length out) (omega (arith, data_size)) in
+        (refused_answer 7 _ (sym e) (not_nought 6) (length (laid_of v before)) 0, z ∙ refused_out 7 _ (sym e) (not_nought 6) (laid_of v before) (length out))
+
+    -- and with room
+    module _ (h : before + 1 + (16 - after) + length name ≤ length out) where
+      enough : room_number (laid_of v before) (length out) ≡ 0
+      enough = room_enough (laid_of v before) (length out) (omega (arith, data_size))
+
+      pub data_answer : answering (before + 1 + (16 - after) + length name) 0 ≡ answer_by (room_number (laid_of v before) (length out)) (length (laid_of v before)) 0
+      data_answer = ap (λ (k : ℕ). answering k 0) data_size ∙ done_answer _ enough (length (laid_of v before)) 0
+
+      pub data_out : (first second third : List ℕ) (back size : ℕ) → first ≡ take before v.address → second ≡ drop after v.address → third ≡ name
+          → back ≡ 16 - after → size ≡ length name
+          → put_mid (before + 1 + (16 - after)) size (put_mid (before + 1) back (set (first ++ drop before out) before v.prefix) second) third ≡ out_by (room_number (laid_of v before) (length out)) (laid_of v before) (length out)
+      data_out first second third back size p q r s t =
+          (λ i. put_mid (before + 1 + (16 - after)) size (put_mid (before + 1) back (set (p i ++ drop before out) before v.prefix) (q i)) (r i))
+          ∙ laid_over v.prefix v.address before after name long b (omega (arith, a)) out back size (omega arith) s t ∙ ap (over out) data_is
+          ∙ over_blank out (laid_of v before) (length out) z ∙ done_out _ enough (laid_of v before) (length out)
 
 -- what `lay` answers and writes, where the data that it lays is the data of some layout
 module _ (v : Value) (before : ℕ) (octets : List ℕ) (d : laid_of v before ≡ octets) (room : ℕ) where

@@ -1,30 +1,31 @@
 -- Laws of how data ends, and of the value that its parts make: the same for every layout.
-use Prim.Native.Nat.{ℕ, zero, suc, ◌+◌, ◌-◌, ◌≤◌, ◌<◌}
+use Prim.Native.Nat.{ℕ, zero, suc, ◌≤◌, ◌<◌}
 use mathlib.Core.Path.{◌≡◌, refl, ap, ◌∙◌, sym}
 use mathlib.Core.Bool.{true}
 use mathlib.Core.List.{List, []}
+use Rattle.std.specs.Prelude.{Result, Ok, Err, IfOk}
 use lib.Dec.{ltb}
-use lib.ListN.{length, take, drop, length-drop}
+use lib.ListN.{length}
 use lib.Seq.{take_all}
 use native.Mathlib.Omega.{arith}
 use borrow.Author.Tests.{lt-ltb, le-ltb, eq-eqb, ne_eqb, ltb-false}
-use Rattle.octets.specs.Octets.{blank, Small}
+use Rattle.octets.specs.Octets.{Small}
+use Rattle.octets.specs.Refusals.{code_of, told, number_of}
+use Rattle.octets.specs.declared.Refusal.{Refusal}
+use Rattle.octets.proofs.RefusalLaws.{told_code, code_some}
 use Rattle.octets.proofs.AnswerLaws.{earns_zero, else_zero, else_kept, else_later}
 use Rattle.labels.specs.Scan.{scan_of, well_formed}
-use Rattle.labels.specs.Answers.{scanned, found}
+use Rattle.labels.specs.Answers.{scanned, found, used_by}
 use Rattle.labels.specs.declared.Scanned.{Scanned}
 use Rattle.names.specs.Standard.{standard_of}
 use Rattle.names.specs.Name.{name_of}
 use Rattle.names.proofs.AnswerLaws.{form_good}
 use Rattle.names.proofs.FrontLaws.{scan_inside}
 use Rattle.names.proofs.NameLaws.{held_formed, held_empty}
-use Rattle.address.specs.Address.{join_of}
-use Rattle.a6.specs.Data.{suffix_octets, blank_value}
 use Rattle.a6.specs.Ending.{name_found, name_number, name_octets, name_in, value_from, reading_for}
-use Rattle.a6.specs.Parts.{by_parts, last_at, value_at, found_at, Sound, Tells}
+use Rattle.a6.specs.Parts.{in_last, value_at, Tells}
 use Rattle.a6.specs.declared.Value.{Value}
-use Rattle.a6.specs.declared.Reading.{Reading}
-use Rattle.a6.specs.declared.inside.Found.{Found}
+use Rattle.a6.specs.declared.parts.Found.{Found}
 
 module _ (l : ℕ) (rest : List ℕ) where
   -- what is found of a name
@@ -37,25 +38,25 @@ module _ (l : ℕ) (rest : List ℕ) where
   found_some e = rw (name_found, ne_eqb l 0 e)
 
   -- one law for each test
-  pub ending_name : ((name_found l rest).number ≡ 0 → ⊥) → name_number l rest ≡ (name_found l rest).number
+  pub ending_name : (number_of (name_found l rest) ≡ 0 → ⊥) → name_number l rest ≡ number_of (name_found l rest)
   unfolding name_number
-  ending_name n = else_kept (name_found l rest).number _ n
+  ending_name n = else_kept (number_of (name_found l rest)) _ n
 
-  pub ending_left : (name_found l rest).number ≡ 0 → (name_found l rest).used < length rest → name_number l rest ≡ 13
+  pub ending_left : number_of (name_found l rest) ≡ 0 → used_by (name_found l rest) < length rest → name_number l rest ≡ 13
   unfolding name_number
-  ending_left n h = else_later (name_found l rest).number _ n ∙ rw (lt-ltb (name_found l rest).used (length rest) h)
+  ending_left n h = else_later (number_of (name_found l rest)) _ n ∙ rw (lt-ltb (used_by (name_found l rest)) (length rest) h)
 
-  pub ending_done : (name_found l rest).number ≡ 0 → length rest ≤ (name_found l rest).used → name_number l rest ≡ 0
+  pub ending_done : number_of (name_found l rest) ≡ 0 → length rest ≤ used_by (name_found l rest) → name_number l rest ≡ 0
   unfolding name_number
-  ending_done n h = else_later (name_found l rest).number _ n ∙ rw (le-ltb (name_found l rest).used (length rest) h)
+  ending_done n h = else_later (number_of (name_found l rest)) _ n ∙ rw (le-ltb (used_by (name_found l rest)) (length rest) h)
 
   -- and what holds where both are passed
-  pub ended : name_number l rest ≡ 0 → ((name_found l rest).number ≡ 0) × (length rest ≤ (name_found l rest).used)
+  pub ended : name_number l rest ≡ 0 → (number_of (name_found l rest) ≡ 0) × (length rest ≤ used_by (name_found l rest))
   unfolding name_number
   ended e =
-      let t = else_zero (name_found l rest).number _ e in
-      let u = earns_zero (ltb (name_found l rest).used (length rest)) 12 _ t.1 in
-      (t.0, ltb-false (name_found l rest).used (length rest) u.0)
+      let t = else_zero (number_of (name_found l rest)) _ e in
+      let u = earns_zero (ltb (used_by (name_found l rest)) (length rest)) 12 _ t.1 in
+      (t.0, ltb-false (used_by (name_found l rest)) (length rest) u.0)
 
   pub name_none : l ≡ 0 → name_in l rest ≡ name_of []
   name_none e = rw (found_none e) held_empty
@@ -63,7 +64,7 @@ module _ (l : ℕ) (rest : List ℕ) where
   module _ (e : name_number l rest ≡ 0) where
     -- the name is all that is left
     pub name_rest : name_octets l rest ≡ rest
-    name_rest = take_all (name_found l rest).used rest (ended e).1
+    name_rest = take_all (used_by (name_found l rest)) rest (ended e).1
 
     -- and well formed, where one is due
     module _ (small : Small rest) (due : l ≡ 0 → ⊥) where
@@ -71,63 +72,57 @@ module _ (l : ℕ) (rest : List ℕ) where
       name_formed =
           let w = found_some due in
           let u = scan_inside rest small in
-          let k : (scanned (scan_of rest)).used ≡ length rest = omega (arith, (ended e).1, ap (λ (t : Scanned). t.used) w) in
-          form_good rest (sym (ap (λ (t : Scanned). t.number) w) ∙ (ended e).0) k
+          let k : used_by (scanned (scan_of rest)) ≡ length rest = omega (arith, (ended e).1, ap used_by w) in
+          form_good rest (sym (ap number_of w) ∙ (ended e).0) k
 
       pub name_standard : name_in l rest ≡ name_of (standard_of rest)
       name_standard = rw name_rest (held_formed rest name_formed)
 
--- a number k that is not 0 refuses, and 0 gives the value
-module _ (k : ℕ) (v : Value) where
-  pub reading_refused : (k ≡ 0 → ⊥) → ◌≡◌ {A = Reading} (record { number = k; value = blank_value }) (reading_for k v)
-  unfolding reading_for
-  reading_refused n = go k n
-    where
-      go : (k : ℕ) → (k ≡ 0 → ⊥) → ◌≡◌ {A = Reading} (record { number = k; value = blank_value }) (reading_for k v)
-      go zero n = absurd (n refl)
-      go (suc j) n = refl
+-- the tests by what the code finds of the name
+module _ (l : ℕ) (rest : List ℕ) where
+  pub ending_refused : (e : Refusal) → Err e ≡ name_found l rest → code_of e ≡ name_number l rest
+  ending_refused e p = let k = ap number_of p in sym (ending_name l rest (λ z. code_some e (k ∙ z)) ∙ sym k)
 
-  pub reading_done : k ≡ 0 → ◌≡◌ {A = Reading} (record { number = 0; value = v }) (reading_for k v)
+  module _ (t : Scanned) (p : Ok t ≡ name_found l rest) where
+    pub ending_more : t.used < length rest → 13 ≡ name_number l rest
+    ending_more h = let u = ap used_by p in sym (ending_left l rest (sym (ap number_of p)) (omega arith))
+
+    pub ending_whole : length rest ≤ t.used → 0 ≡ name_number l rest
+    ending_whole h = let u = ap used_by p in sym (ending_done l rest (sym (ap number_of p)) (omega arith))
+
+-- what the tests of a layout say where they end with these parts
+pub tells_parts : (r : Result Found Refusal) (l : ℕ) (suffix name : List ℕ) (number : ℕ) (v : Value) → number_of r ≡ number
+    → IfOk r (λ f. (f.prefix ≡ l) × (f.suffix.now ≡ suffix) × (f.name.now ≡ name)) → value_from l (in_last l suffix) name ≡ v → Tells r number v
+tells_parts (Ok f) l suffix name number v e p w = (e, (λ i. value_from (p.0 i) (in_last (p.0 i) (p.1 i)) (p.2 i)) ∙ w)
+tells_parts (Err x) l suffix name number v e p w = (e, tt)
+
+-- a number that is not 0 refuses, and 0 gives the value
+module _ (k : ℕ) (v : Value) where
+  pub reading_refused : (e : Refusal) → code_of e ≡ k → Err e ≡ reading_for k v
+  unfolding reading_for
+  reading_refused e p = go k p
+    where
+      go : (k : ℕ) → code_of e ≡ k → Err e ≡ reading_for k v
+      go zero p = absurd (code_some e p)
+      go (suc j) p = ap Err (sym (told_code e) ∙ ap told p)
+
+  pub reading_done : k ≡ 0 → Ok v ≡ reading_for k v
   unfolding reading_for
   reading_done e = rw e
 
-  pub reading_number : (reading_for k v).number ≡ k
+  -- what is given comes of number 0
+  pub reading_given : (w : Value) → reading_for k v ≡ Ok w → (k ≡ 0) × (v ≡ w)
   unfolding reading_for
-  reading_number = refl
+  reading_given w e = go k e
+    where
+      go : (k : ℕ) → reading_for k v ≡ Ok w → (k ≡ 0) × (v ≡ w)
+      go zero e = (refl, cc)
+      go (suc j) e = cc
 
--- only a value that 0 gives counts
-reading_alike : (k : ℕ) (v w : Value) → (k ≡ 0 → v ≡ w) → reading_for k v ≡ reading_for k w
-unfolding reading_for
-reading_alike zero v w h = ap (λ (x : Value). reading_for 0 x) (h refl)
-reading_alike (suc j) v w h = refl
+-- what a reader gives whose tests tell a number and a value: the value of the parts that they find, or their refusal
+module _ (number : ℕ) (v : Value) where
+  pub told_done : (f : Found) → Tells (Ok f) number v → Ok (value_at f) ≡ reading_for number v
+  told_done f t = ap Ok t.1 ∙ reading_done number v (sym t.0)
 
--- a part that reaches the end
-pub part_rest : (octets : List ℕ) (n : ℕ) → take (length octets - n) (drop n octets) ≡ drop n octets
-part_rest octets n = take_all (length octets - n) (drop n octets) (omega (arith, length-drop n octets))
-
--- the parts of a value, as the code has found them
-pub parts_value : (octets : List ℕ) (f : Found) (address out : List ℕ) (n : ℕ) → address ≡ join_of (blank 16) (last_at octets f.suffix f.prefix) f.prefix
-    → out ≡ (name_in f.prefix (drop f.rest octets)).octets → n ≡ (name_in f.prefix (drop f.rest octets)).length → by_parts f.prefix address out n ≡ value_at octets f
-unfolding value_from
-parts_value octets f address out n p q w = λ i. by_parts f.prefix (p i) (q i) (w i)
-
--- where the tests have found the parts, and the data ends well
-module _ (octets : List ℕ) (l suffix rest : ℕ) (f : Found) (low : l ≤ 128) (inside : suffix + suffix_octets l ≤ length octets) (after : rest ≤ length octets)
-    (e : name_number l (drop rest octets) ≡ 0) (p : f ≡ found_at l suffix rest (name_found l (drop rest octets)).standard) where
-  pub found_sound : Sound octets f
-  found_sound = rw p (record { low = low; suffix_inside = inside; rest_inside = after; named = e; told = refl })
-
-  pub found_value : value_at octets f ≡ value_from l (last_at octets suffix l) (drop rest octets)
-  found_value = ap (value_at octets) p
-
--- what the tests say where one of them refuses; on 0 they would say more
-pub refusing : {P : Type 0} (n number k : ℕ) → n ≡ suc k → number ≡ suc k → (n ≡ number) × (number ≡ 0 → P)
-refusing n number k p e = (p ∙ sym e, λ z. let w : ⊥ = omega (arith, e) in absurd w)
-
--- what the tests of a layout say
-module _ (octets : List ℕ) (f : Found) (number : ℕ) (v : Value) (t : Tells octets f number v) where
-  pub told_sound : f.number ≡ 0 → Sound octets f
-  told_sound z = (t.1 (sym t.0 ∙ z)).0
-
-  pub told_reading : reading_for f.number (value_at octets f) ≡ reading_for number v
-  told_reading = reading_alike f.number (value_at octets f) v (λ z. (t.1 (sym t.0 ∙ z)).1) ∙ ap (λ (n : ℕ). reading_for n v) t.0
+  pub told_refused : (e : Refusal) → Tells (Err e) number v → Err e ≡ reading_for number v
+  told_refused e t = reading_refused number v e t.0

@@ -3,7 +3,10 @@ use Prim.Native.Nat.{ℕ, ◌+◌, ◌-◌}
 use mathlib.Core.Path.{◌≡◌, refl}
 use mathlib.Core.List.{List, [], ◌∷◌, ◌++◌, map}
 use lib.ListN.{length, drop}
+use Rattle.std.specs.Prelude.{Result, Ok, Err}
 use Rattle.octets.specs.Octets.{blank}
+use Rattle.octets.specs.declared.Refusal.{Refusal}
+use Rattle.octets.specs.declared.Refusal.TheVariants.{Prefix}
 use Rattle.names.specs.Name.{name_of}
 use Rattle.a6.specs.Data.{suffix_octets}
 use Rattle.a6.specs.Read.{read_number, read_of}
@@ -12,7 +15,6 @@ use Rattle.a6.specs.Standard.{standard_data}
 use Rattle.a6.proofs.Samples.{ones, p}
 use Rattle.a6.proofs.Computing.{data_compute}
 use Rattle.a6.specs.declared.Value.{Value}
-use Rattle.a6.specs.declared.Reading.{Reading}
 
 -- 01, Examples to check: the suffix octets of 0, 7, 8, 121 and 128
 suffixes : map suffix_octets (0 ∷ 7 ∷ 8 ∷ 121 ∷ 128 ∷ []) ≡ 16 ∷ 16 ∷ 15 ∷ 1 ∷ 0 ∷ []
@@ -45,9 +47,9 @@ value : Case → Value
 unfolding name_of
 value c = record { prefix = c.prefix; address = c.address; name = name_of (drop (1 + suffix_octets c.prefix) c.written) }
 
-expected : Case → Reading
+expected : Case → Result Value Refusal
 unfolding value
-expected c = record { number = 0; value = value c }
+expected c = Ok (value c)
 
 reads : map (λ c. read_of (given c)) cases ≡ map expected cases
 unfolding data_compute given expected cases
@@ -71,7 +73,7 @@ refusals : map read_number ([] ∷ (129 ∷ []) ∷ (200 ∷ ones 40) ∷ (0 ∷
 unfolding data_compute ones p
 refusals = refl
 
-refused_value : read_of (129 ∷ []) ≡ record { number = 10; value = record { prefix = 0; address = blank 16; name = name_of [] } }
+refused_value : read_of (129 ∷ []) ≡ Err Prefix
 unfolding data_compute
 refused_value = refl
 

@@ -3,19 +3,20 @@ use Prim.Native.Nat.{ℕ, ◌-◌, ◌≤◌, ◌<◌}
 use mathlib.Core.Path.{◌≡◌, ap, ◌∙◌, sym}
 use mathlib.Core.Logic.{◌↔◌}
 use mathlib.Core.List.{List, ◌++◌}
+use Rattle.std.specs.Prelude.{Result, Ok}
 use lib.ListN.{length, take}
 use lib.Seq.{take-append_seam}
 use native.Mathlib.Omega.{arith}
 use Rattle.octets.specs.Octets.{blank, Small}
 use Rattle.octets.specs.Answers.{or_else, answering, refusal, answer_by, out_by}
 use Rattle.octets.specs.declared.Answer.{Answer}
+use Rattle.octets.specs.declared.Refusal.{Refusal}
 use Rattle.octets.proofs.AnswerLaws.{not_nought, refused_answer, refused_out, done_answer, done_out}
 use Rattle.a6.specs.Data.{Shaped}
 use Rattle.a6.specs.Ending.{reading_for}
 use Rattle.a6.specs.Accepted.{value_number, room_number}
 use Rattle.a6.specs.declared.Value.{Value}
-use Rattle.a6.specs.declared.Reading.{Reading}
-use Rattle.a6.proofs.EndingLaws.{reading_done, reading_number}
+use Rattle.a6.proofs.EndingLaws.{reading_done, reading_given}
 use Rattle.a6.proofs.AcceptedLaws.{Writable, write_room, write_done, write_fits}
 
 -- what a layout is: the number and the value of data, the data of a value, and the standard form of data; and what is to be shown of them
@@ -33,7 +34,7 @@ pub record Layout : Type 0 where
 
 module _ (L : Layout) where
   -- what the reader gives, and the number, the answer and the output of the writer
-  abbrev pub read_by : List ℕ → Reading
+  abbrev pub read_by : List ℕ → Result Value Refusal
   read_by octets = reading_for (L.number octets) (L.value octets)
 
   abbrev pub number_by : Value → ℕ → ℕ
@@ -47,7 +48,7 @@ module _ (L : Layout) where
 
   -- the reader gives this value; some octets give it
   abbrev pub Gives : List ℕ → Value → Type 0
-  Gives octets v = read_by octets ≡ record { number = 0; value = v }
+  Gives octets v = read_by octets ≡ Ok v
 
   abbrev pub Given : Value → Type 0
   Given v = (octets : List ℕ) × Small octets × Gives octets v
@@ -57,26 +58,27 @@ module _ (L : Layout) where
   Accepted v = number_by v (length (L.written v)) ≡ 0
 
   written_gives : (v : Value) → Shaped v → Writable v → Gives (L.written v) v
-  written_gives v s w = sym (reading_done (L.number (L.written v)) (L.value (L.written v)) (L.written_number v s w)) ∙ ap (λ (x : Value). record { number = 0; value = x }) (L.written_value v s w)
+  written_gives v s w = sym (reading_done (L.number (L.written v)) (L.value (L.written v)) (L.written_number v s w)) ∙ ap Ok (L.written_value v s w)
 
-  -- what is given is the value of data that can be read
-  gives : (octets : List ℕ) (v : Value) → Gives octets v → (L.number octets ≡ 0) × (L.value octets ≡ v)
-  gives octets v g =
-      let e : L.number octets ≡ 0 = sym (reading_number (L.number octets) (L.value octets)) ∙ ap (λ (r : Reading). r.number) g in
-      (e, ap (λ (r : Reading). r.value) (reading_done (L.number octets) (L.value octets) e ∙ g))
+  -- data of number 0 gives its value, and what is given is the value of data of number 0
+  pub number_gives : (octets : List ℕ) → L.number octets ≡ 0 → Gives octets (L.value octets)
+  number_gives octets e = sym (reading_done (L.number octets) (L.value octets) e)
+
+  pub gives : (octets : List ℕ) (v : Value) → Gives octets v → (L.number octets ≡ 0) × (L.value octets ≡ v)
+  gives octets v g = reading_given (L.number octets) (L.value octets) v g
 
   given_writable : (v : Value) → Given v → Writable v × Shaped v
   given_writable v (octets, small, g) = let e = gives octets v g in rw (← e.1) (L.read_writable octets small e.0, L.read_shaped octets small e.0)
 
   -- Theorem: what was read, written with room enough, is the standard form of the data with zeros after it
-  pub write_read : (octets : List ℕ) (room : ℕ) → Small octets → L.number octets ≡ 0 → length (L.standard octets) ≤ room
-      → (answer_for (read_by octets).value room ≡ answering (length (L.standard octets)) 0)
-      × (out_for (read_by octets).value room ≡ L.standard octets ++ blank (room - length (L.standard octets)))
-  write_read octets room s e l =
-      let v = ap (λ (r : Reading). r.value) (sym (reading_done (L.number octets) (L.value octets) e)) in
-      let d = L.read_written octets s e in
-      let n = write_done (L.value octets) (L.written (L.value octets)) room (L.read_writable octets s e) (rw d l) in
-      (rw (v, ← d) (sym (done_answer _ n (length (L.written (L.value octets))) 0)), rw (v, ← d) (sym (done_out _ n (L.written (L.value octets)) room)))
+  pub write_read : (octets : List ℕ) (v : Value) (room : ℕ) → Small octets → Gives octets v → length (L.standard octets) ≤ room
+      → (answer_for v room ≡ answering (length (L.standard octets)) 0)
+      × (out_for v room ≡ L.standard octets ++ blank (room - length (L.standard octets)))
+  write_read octets v room s g l =
+      let e = gives octets v g in
+      let d : L.written v ≡ L.standard octets = ap L.written (sym e.1) ∙ L.read_written octets s e.0 in
+      let n = write_done v (L.written v) room (given_writable v (octets, s, g)).0 (rw d l) in
+      (rw (← d) (sym (done_answer _ n (length (L.written v)) 0)), rw (← d) (sym (done_out _ n (L.written v) room)))
 
   -- Theorem: an accepted value, written and read again, is itself
   pub read_write : (v : Value) (room : ℕ) → Shaped v → number_by v room ≡ 0 → Gives (take (answer_for v room).count (out_for v room)) v
@@ -111,18 +113,15 @@ module _ (K L : Layout) where
   pub given_other : (v : Value) → Given K v → Given L v
   given_other v g = let w = given_writable K v g in (L.written v, L.written_small v w.1, written_gives L v w.1 w.0)
 
-  -- Theorem: the way round: read in the one, written in the other with room enough, read there, and written in the first is its standard form
-  pub way_round : (octets : List ℕ) (between room : ℕ) → Small octets → K.number octets ≡ 0 → length (L.written (read_by K octets).value) ≤ between → length (K.standard octets) ≤ room
-      → ((answer_for L (read_by K octets).value between).number ≡ 0)
-      × (read_by L (take (answer_for L (read_by K octets).value between).count (out_for L (read_by K octets).value between)) ≡ read_by K octets)
-      × (answer_for K (read_by L (take (answer_for L (read_by K octets).value between).count (out_for L (read_by K octets).value between))).value room ≡ answering (length (K.standard octets)) 0)
-      × (out_for K (read_by L (take (answer_for L (read_by K octets).value between).count (out_for L (read_by K octets).value between))).value room ≡ K.standard octets ++ blank (room - length (K.standard octets)))
-  way_round octets between room small e l m =
-      let r = reading_done (K.number octets) (K.value octets) e in
-      let v : K.value octets ≡ (read_by K octets).value = ap (λ (r : Reading). r.value) r in
-      let s : Shaped (read_by K octets).value = rw (← v) (K.read_shaped octets small e) in
-      let w : Writable (read_by K octets).value = rw (← v) (K.read_writable octets small e) in
-      let n = write_done (read_by K octets).value (L.written (read_by K octets).value) between w l in
-      let b = read_write L (read_by K octets).value between s n ∙ ap (λ (x : Value). record { number = 0; value = x }) (sym v) ∙ r in
-      let k = write_read K octets room small e m in
-      (ap (λ (a : Answer). a.number) (sym (done_answer _ n (length (L.written (read_by K octets).value)) 0)), b, ap (λ (x : Reading). answer_for K x.value room) b ∙ k.0, ap (λ (x : Reading). out_for K x.value room) b ∙ k.1)
+  -- Theorem: the way round: read in the one, written in the other with room enough, it is read there as the same value; and that, written in the first, is its
+  -- standard form
+  pub way_round : (octets : List ℕ) (v : Value) (between room : ℕ) → Small octets → Gives K octets v → length (L.written v) ≤ between → length (K.standard octets) ≤ room
+      → ((answer_for L v between).number ≡ 0)
+      × Gives L (take (answer_for L v between).count (out_for L v between)) v
+      × (answer_for K v room ≡ answering (length (K.standard octets)) 0)
+      × (out_for K v room ≡ K.standard octets ++ blank (room - length (K.standard octets)))
+  way_round octets v between room small g l m =
+      let w = given_writable K v (octets, small, g) in
+      let n = write_done v (L.written v) between w.0 l in
+      let k = write_read K octets v room small g m in
+      (ap (λ (a : Answer). a.number) (sym (done_answer _ n (length (L.written v)) 0)), read_write L v between w.1 n, k.0, k.1)

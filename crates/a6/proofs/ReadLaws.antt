@@ -1,6 +1,6 @@
 -- Laws of the reader: one for each test, and what holds where all are passed.
 use Prim.Native.Nat.{ℕ, ◌+◌, ◌≤◌, ◌<◌}
-use mathlib.Core.Path.{◌≡◌}
+use mathlib.Core.Path.{◌≡◌, refl}
 use mathlib.Core.List.{List}
 use lib.Dec.{ltb, eqb}
 use lib.ListN.{length, drop, length-drop}
@@ -11,7 +11,7 @@ use Rattle.octets.proofs.AnswerLaws.{earns_zero}
 use Rattle.a6.specs.Data.{suffix_octets, prefix_of, suffix_of, after_suffix}
 use Rattle.a6.specs.Ending.{name_number, value_from}
 use Rattle.a6.specs.Read.{read_number, value_of}
-use Rattle.a6.specs.Parts.{last_at}
+use Rattle.a6.specs.Parts.{in_last}
 
 -- the data has a prefix length in range and its suffix
 pub record Fronted (octets : List ℕ) : Type 0 where
@@ -54,11 +54,7 @@ module _ (octets : List ℕ) where
   unfolding suffix_of
   suffix_long f = length-take-le (suffix_octets (prefix_of octets)) (drop 1 octets) (omega (arith, f.long, length-drop 1 octets))
 
-  pub rest_after : (rest : ℕ) → rest ≡ 1 + suffix_octets (prefix_of octets) → drop rest octets ≡ after_suffix octets
-  unfolding after_suffix
-  rest_after rest e = rw e
-
   -- the value by where the parts are: the suffix after the first octet, and the rest after it
-  pub value_at_lem : (rest : ℕ) → rest ≡ 1 + suffix_octets (prefix_of octets) → value_from (prefix_of octets) (last_at octets 1 (prefix_of octets)) (drop rest octets) ≡ value_of octets
-  unfolding value_of suffix_of after_suffix
-  value_at_lem rest e = rw e
+  pub value_parts : value_from (prefix_of octets) (in_last (prefix_of octets) (suffix_of octets)) (after_suffix octets) ≡ value_of octets
+  unfolding value_of
+  value_parts = refl

@@ -12,7 +12,8 @@ use Rattle.octets.specs.Octets.{blank, Small}
 use Rattle.octets.proofs.OctetLaws.{length_blank, small_take, nil_of_length}
 use Rattle.octets.proofs.SmallLaws.{small_append, small_blank}
 use Rattle.octets.proofs.ZeroLaws.{blank_eq}
-use Rattle.labels.specs.declared.Scanned.{Scanned}
+use Rattle.octets.specs.Refusals.{number_of}
+use Rattle.labels.specs.Answers.{used_by}
 use Rattle.names.specs.Name.{name_of, held_of}
 use Rattle.names.specs.declared.Name.{Name}
 use Rattle.names.proofs.FrontLaws.{formed_scan}
@@ -129,8 +130,8 @@ module _ (v : Value) (w : Writable v) where
       let g = in_standard xs (sym (fits_some l xs z) ∙ w.fits) in
       let k = formed_scan xs g.0 in
       let f = found_some l xs z in
-      let u : (name_found l xs).used ≡ length xs = ap (λ (t : Scanned). t.used) f ∙ k.1 in
-      let e = ending_done l xs (ap (λ (t : Scanned). t.number) f ∙ k.0) (omega arith) in
+      let u : used_by (name_found l xs) ≡ length xs = ap used_by f ∙ k.1 in
+      let e = ending_done l xs (ap number_of f ∙ k.0) (omega arith) in
       let r = name_rest l xs e in
       record { number = e; name = ap held_of r ∙ held_formed xs g.0 ∙ ap name_of g.1 }
 

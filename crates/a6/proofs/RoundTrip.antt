@@ -1,8 +1,11 @@
 -- A6 data as a layout (01, A6 data): what holds in every layout holds of it.
 use Prim.Native.Nat.{ℕ, ◌<◌}
-use mathlib.Core.Path.{◌≡◌}
+use mathlib.Core.Path.{◌≡◌, ap}
+use Rattle.std.specs.Prelude.{Err}
 use mathlib.Core.List.{List, [], ◌∷◌}
 use native.Mathlib.Omega.{arith}
+use Rattle.octets.specs.declared.Refusal.TheVariants.{Prefix}
+use Rattle.octets.proofs.RefusalLaws.{told_code}
 use Rattle.a6.specs.Ending.{reading_for}
 use Rattle.a6.specs.Read.{read_number, value_of, read_of}
 use Rattle.a6.specs.Write.{data_of}
@@ -27,9 +30,9 @@ a6_layout =
     }
 
 -- Theorem: a prefix length over 128 is 10 whatever follows it
-pub prefix_over : (l : ℕ) (rest : List ℕ) → 128 < l → (read_of (l ∷ rest) ≡ read_of (l ∷ [])) × ((read_of (l ∷ rest)).number ≡ 10)
+pub prefix_over : (l : ℕ) (rest : List ℕ) → 128 < l → (read_of (l ∷ rest) ≡ read_of (l ∷ [])) × (read_of (l ∷ rest) ≡ Err Prefix)
 unfolding reading_for
 prefix_over l rest h =
     let p = read_prefix (l ∷ rest) (omega arith) h in
     let q = read_prefix (l ∷ []) (omega arith) h in
-    (rw (p, q), p)
+    (rw (p, q), rw p (ap Err (told_code Prefix)))

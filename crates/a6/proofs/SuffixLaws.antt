@@ -6,19 +6,21 @@ use mathlib.Core.List.{List, [], ◌∷◌, ◌++◌, append-nil}
 use lib.Dec.{ltb}
 use lib.ListN.{length, get_or, take, drop, set, length-append, length-drop, get_or-append}
 use lib.Bits.{bit_and, and_mask}
-use lib.Seq.{get_or-drop, get_or-append-add, ext_get_or, length-take-le, get_or_at, set_at, paste}
+use lib.Seq.{get_or-drop, get_or-append-add, ext_get_or, take-length, get_or_at, set_at, paste}
 use native.Mathlib.Omega.{arith}
 use native.Mathlib.Nat.{zero-div, zero-mul, zero-add, zero-mod, mod-one}
 use borrow.Author.Tests.{ltb-true, ltb-false}
+use borrow.Rule.Slice.PartMut.{put_mid}
+use Rattle.std.proofs.lemmas.Slice.{put_mid-paste}
 use Rattle.octets.specs.Octets.{blank, Small}
-use Rattle.octets.proofs.OctetLaws.{length_blank, small_drop, small_take, drop_blank}
+use Rattle.octets.proofs.OctetLaws.{length_blank, drop_blank}
 use Rattle.octets.proofs.SmallLaws.{get_or_blank, small_blank}
 use Rattle.address.specs.Address.{join_of}
 use Rattle.address.proofs.AddressLaws.{join_length}
 use Rattle.address.proofs.JoinLaws.{join_octet}
 use Rattle.a6.specs.Data.{suffix_octets}
 use Rattle.a6.specs.Standard.{without_padding}
-use Rattle.a6.specs.Parts.{last_at}
+use Rattle.a6.specs.Parts.{in_last}
 
 -- zeros, and then the bits of a from l on: an octet keeps its bits from there on
 module _ (a : List ℕ) (l : ℕ) (long : length a ≡ 16) where
@@ -113,60 +115,50 @@ module _ (l : ℕ) (a : List ℕ) (low : l ≤ 128) (long : length a ≡ 16) whe
   pub join_own : join_of (blank 16) (blank (16 - suffix_octets l) ++ drop (16 - suffix_octets l) a) l ≡ join_of (blank 16) a l
   join_own = let k : 16 - suffix_octets l ≡ l / 8 = omega arith in rw k join_whole
 
--- octets copied to the last places over zeros, and the zeros before them
+-- a suffix that the code has put into the last of sixteen octets over zeros
+module _ (l : ℕ) (s out : List ℕ) (low : l ≤ 128) (long : length s ≡ suffix_octets l) (small : Small s) (made : out ≡ blank (16 - length s) ++ s) where
+  abbrev address : List ℕ
+  address = join_of (blank 16) (in_last l s) l
+
+  address_is : address ≡ blank (16 - length s) ++ without_padding (l % 8) s
+  address_is = rw long (join_suffix l s low long small)
+
+  -- it is the address where there are no octets of a suffix; else the first of them loses its first bits
+  pub address_none : 16 ≤ 16 - length s → out ≡ address
+  unfolding without_padding
+  address_none z = go s refl
+    where
+      go : (t : List ℕ) → s ≡ t → out ≡ address
+      go [] q = made ∙ ap (λ (t : List ℕ). blank (16 - length s) ++ t) q ∙ sym (address_is ∙ ap (λ (t : List ℕ). blank (16 - length s) ++ without_padding (l % 8) t) q)
+      go (x ∷ xs) q = let v : ⊥ = omega (arith, long, ap length q) in absurd v
+
+  pub address_some : 16 - length s < 16 → (v : ℕ) → v ≡ get_or out (16 - length s) 0 % 2 ^ (8 - l % 8) → set out (16 - length s) v ≡ address
+  unfolding without_padding
+  address_some z v w = go s refl
+    where
+      go : (t : List ℕ) → s ≡ t → set out (16 - length s) v ≡ address
+      go [] q = let u : ⊥ = omega (arith, ap length q, z) in absurd u
+      go (x ∷ xs) q =
+          let m : out ≡ blank (16 - length s) ++ (x ∷ xs) = made ∙ ap (λ (t : List ℕ). blank (16 - length s) ++ t) q in
+          let a : address ≡ blank (16 - length s) ++ (x % 2 ^ (8 - l % 8) ∷ xs) = address_is ∙ ap (λ (t : List ℕ). blank (16 - length s) ++ without_padding (l % 8) t) q in
+          let g : get_or out (16 - length s) 0 ≡ x = rw m (get_or_at (blank (16 - length s)) x xs 0 (16 - length s) (length_blank (16 - length s))) in
+          rw (w, g, m) (set_at (blank (16 - length s)) x xs (x % 2 ^ (8 - l % 8)) (16 - length s) (length_blank (16 - length s))) ∙ sym a
+
+-- the zeros that stay before it
 take_blank : (k n : ℕ) → k ≤ n → take k (blank n) ≡ blank k
 unfolding blank
 take_blank zero n h = refl
 take_blank (suc k) zero h = let z : ⊥ = omega arith in absurd z
 take_blank (suc k) (suc n) h = ap (λ (xs : List ℕ). 0 ∷ xs) (take_blank k n (omega arith))
 
-copied_last : (xs : List ℕ) (n : ℕ) → n ≤ 16 → paste (blank 16) (16 - n) xs n ≡ blank (16 - n) ++ take n xs
+pub put_last : (s put out : List ℕ) (n : ℕ) → length s ≤ 16 → put ≡ s → out ≡ blank 16 → n ≡ length s → put_mid (16 - length s) n out put ≡ blank (16 - length s) ++ s
 unfolding blank
-copied_last xs n h =
-    let k : 16 - n + n ≡ 16 = omega arith in
-    rw (take_blank (16 - n) 16 (omega arith), k, drop_blank 16 16, append-nil (blank (16 - n) ++ take n xs))
-
--- the octets from place `at` on as the code copies them over zeros, n of them
-pub record Copied (octets out : List ℕ) (at l n : ℕ) : Type 0 where
-  pub low : l ≤ 128
-  pub inside : at + suffix_octets l ≤ length octets
-  pub small : Small octets
-  pub count : n ≡ suffix_octets l
-  pub made : out ≡ paste (blank 16) (16 - n) (drop at octets) n
-
--- the address as the code makes it: where there are such octets, the first of them loses its first bits
-module _ (octets out : List ℕ) (at l n : ℕ) (k : Copied octets out at l n) where
-  abbrev suffix : List ℕ
-  suffix = take (suffix_octets l) (drop at octets)
-
-  long : length suffix ≡ n
-  long = length-take-le (suffix_octets l) (drop at octets) (omega (arith, k.inside, length-drop at octets)) ∙ sym k.count
-
-  parts : (s : List ℕ) → suffix ≡ s → (out ≡ blank (16 - n) ++ s) × (join_of (blank 16) (last_at octets at l) l ≡ blank (16 - n) ++ without_padding (l % 8) s)
-  parts s q =
-      let t = small_take (suffix_octets l) (drop at octets) (small_drop at octets k.small) in (
-        k.made ∙ copied_last (drop at octets) n (omega (arith, k.count)) ∙ ap (λ (m : ℕ). blank (16 - n) ++ take m (drop at octets)) k.count ∙ rw q,
-        join_suffix l suffix k.low (long ∙ k.count) t ∙ rw (q, k.count),
-      )
-
-  pub address_none : n ≡ 0 → out ≡ join_of (blank 16) (last_at octets at l) l
-  unfolding without_padding
-  address_none z = go suffix refl
-    where
-      go : (s : List ℕ) → suffix ≡ s → out ≡ join_of (blank 16) (last_at octets at l) l
-      go [] q = (parts [] q).0 ∙ sym (parts [] q).1
-      go (x ∷ xs) q = let v : ⊥ = omega (arith, long, ap length q) in absurd v
-
-  pub address_some : (n ≡ 0 → ⊥) → (v : ℕ) → v ≡ get_or out (16 - n) 0 % 2 ^ (8 - l % 8) → set out (16 - n) v ≡ join_of (blank 16) (last_at octets at l) l
-  unfolding without_padding
-  address_some z v w = go suffix refl
-    where
-      go : (s : List ℕ) → suffix ≡ s → set out (16 - n) v ≡ join_of (blank 16) (last_at octets at l) l
-      go [] q = let u : ⊥ = omega (arith, long, ap length q, z) in absurd u
-      go (x ∷ xs) q =
-          let a = parts (x ∷ xs) q in
-          let g : get_or out (16 - n) 0 ≡ x = rw a.0 (get_or_at (blank (16 - n)) x xs 0 (16 - n) (length_blank (16 - n))) in
-          rw (w, g, a.0) (set_at (blank (16 - n)) x xs (x % 2 ^ (8 - l % 8)) (16 - n) (length_blank (16 - n))) ∙ sym a.1
+put_last s put out n h p z e = rw (p, z, e) (put_mid-paste (16 - length s) (length s) (blank 16) s s (length s) refl refl refl ∙ pasted)
+  where
+    pasted : paste (blank 16) (16 - length s) s (length s) ≡ blank (16 - length s) ++ s
+    pasted =
+        let k : 16 - length s + length s ≡ 16 = omega arith in
+        rw (take_blank (16 - length s) 16 (omega arith), k, drop_blank 16 16, take-length s) (append-nil (blank (16 - length s) ++ s))
 
 -- the ones that leave the first p bits of an octet out
 ones : (p : ℕ) → p < 8 → 255 / 2 ^ p ≡ 2 ^ (8 - p) - 1

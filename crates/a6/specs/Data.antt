@@ -1,7 +1,6 @@
 -- A6 data (01, the section of that name): how its parts are told apart, and the values that it stands for.
-use Rattle.std.specs.Prelude.{ℕ, ◌+◌, ◌-◌, ◌/◌, ◌<◌, ◌≡◌, List, [], length, get_or, take, drop}
-use Rattle.octets.specs.Octets.{blank, Small}
-use Rattle.names.specs.Name.{name_of}
+use Rattle.std.specs.Prelude.{ℕ, ◌+◌, ◌-◌, ◌/◌, ◌<◌, ◌≡◌, List, length, get_or, take, drop}
+use Rattle.octets.specs.Octets.{Small}
 use Rattle.names.specs.declared.Name.{Name}
 use Rattle.a6.specs.declared.Value.{Value}
 
@@ -28,10 +27,6 @@ after_suffix octets = drop (1 + suffix_octets (prefix_of octets)) octets
 -- the octets of a name that is held by value
 unfoldable pub octets_of : Name → List ℕ
 octets_of n = take n.length n.octets
-
--- L = 0, zero octets, no name: what a refusal shows
-abbrev pub blank_value : Value
-blank_value = record { prefix = 0; address = blank 16; name = name_of [] }
 
 -- what the type of a value gives: octets, as many as it says
 pub record Shaped (v : Value) : Type 0 where

@@ -3,10 +3,12 @@ use Prim.Native.Nat.{ℕ, ◌-◌}
 use mathlib.Core.Path.{◌≡◌, refl}
 use mathlib.Core.List.{List, [], ◌∷◌, ◌++◌, map}
 use lib.ListN.{length}
+use Rattle.std.specs.Prelude.{Result, Ok, Err}
 use Rattle.octets.specs.Octets.{blank}
+use Rattle.octets.specs.declared.Refusal.{Refusal}
+use Rattle.octets.specs.declared.Refusal.TheVariants.{Prefix}
 use Rattle.names.specs.Name.{name_of}
 use Rattle.a6.specs.declared.Value.{Value}
-use Rattle.a6.specs.declared.Reading.{Reading}
 use Rattle.draft.specs.Read.{draft_number, draft_reading}
 use Rattle.draft.specs.Write.{draft_write_number, draft_out}
 use Rattle.draft.specs.Standard.{draft_standard}
@@ -39,9 +41,9 @@ value : Case → Value
 unfolding name_of
 value c = record { prefix = c.prefix; address = c.address; name = name_of c.standard }
 
-expected : Case → Reading
+expected : Case → Result Value Refusal
 unfolding value
-expected c = record { number = 0; value = value c }
+expected c = Ok (value c)
 
 written : Case → List ℕ
 written c = c.address ++ (c.prefix ∷ c.standard)
@@ -69,7 +71,7 @@ refusals : map draft_number ([] ∷ (200 ∷ ones 15) ∷ ones 16 ∷ (blank 16 
 unfolding draft_compute ones p
 refusals = refl
 
-refused_value : draft_reading (blank 16 ++ (129 ∷ [])) ≡ record { number = 10; value = record { prefix = 0; address = blank 16; name = name_of [] } }
+refused_value : draft_reading (blank 16 ++ (129 ∷ [])) ≡ Err Prefix
 unfolding draft_compute
 refused_value = refl
 
@@ -77,8 +79,8 @@ refused_value = refl
 apart : List ℕ
 apart = 0xF1 ∷ 0xF2 ∷ 0xF3 ∷ 4 ∷ 5 ∷ 6 ∷ 7 ∷ 8 ∷ 9 ∷ 10 ∷ 11 ∷ 12 ∷ 13 ∷ 14 ∷ 15 ∷ 16 ∷ []
 
-in_order : ((draft_reading (apart ++ (20 ∷ p))).value.address ≡ 0 ∷ 0 ∷ 3 ∷ 4 ∷ 5 ∷ 6 ∷ 7 ∷ 8 ∷ 9 ∷ 10 ∷ 11 ∷ 12 ∷ 13 ∷ 14 ∷ 15 ∷ 16 ∷ [])
-    × ((draft_reading (apart ++ (0 ∷ []))).value.address ≡ apart)
+in_order : (draft_reading (apart ++ (20 ∷ p)) ≡ Ok (record { prefix = 20; address = 0 ∷ 0 ∷ 3 ∷ 4 ∷ 5 ∷ 6 ∷ 7 ∷ 8 ∷ 9 ∷ 10 ∷ 11 ∷ 12 ∷ 13 ∷ 14 ∷ 15 ∷ 16 ∷ []; name = name_of p }))
+    × (draft_reading (apart ++ (0 ∷ [])) ≡ Ok (record { prefix = 0; address = apart; name = name_of [] }))
 unfolding draft_compute apart p
 in_order = (refl, refl)
 

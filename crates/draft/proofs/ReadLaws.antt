@@ -1,19 +1,19 @@
 -- Laws of the reader: one for each test, and what holds where all are passed.
-use Prim.Native.Nat.{ℕ, ◌-◌, ◌≤◌, ◌<◌}
-use mathlib.Core.Path.{◌≡◌, ap, ◌∙◌, sym}
-use mathlib.Core.List.{List, ◌++◌}
+use Prim.Native.Nat.{ℕ, ◌-◌, ◌/◌, ◌≤◌, ◌<◌}
+use mathlib.Core.Path.{◌≡◌, ap, ◌∙◌}
+use mathlib.Core.List.{List}
 use lib.Dec.{ltb}
 use lib.ListN.{length, take, drop, length-drop}
-use lib.Seq.{length-take-le, take_all}
+use lib.Seq.{length-take-le}
 use native.Mathlib.Omega.{arith}
+use Rattle.std.proofs.lemmas.Slice.{between_is}
 use borrow.Author.Tests.{lt-ltb, le-ltb, ltb-false}
 use Rattle.octets.specs.Octets.{blank}
-use Rattle.octets.proofs.OctetLaws.{take_drop_take}
 use Rattle.octets.proofs.AnswerLaws.{earns_zero}
 use Rattle.address.specs.Address.{join_of}
 use Rattle.a6.specs.Data.{suffix_octets}
 use Rattle.a6.specs.Ending.{name_number, name_in, value_from}
-use Rattle.a6.specs.Parts.{last_at}
+use Rattle.a6.specs.Parts.{in_last}
 use Rattle.a6.proofs.SuffixLaws.{join_own}
 use Rattle.draft.specs.Layout.{address_part, prefix_part, rest_part}
 use Rattle.draft.specs.Read.{draft_number, draft_value}
@@ -48,20 +48,21 @@ module _ (octets : List ℕ) where
     pub address_long : length (address_part octets) ≡ 16
     address_long = length-take-le 16 octets (omega (arith, f.long))
 
-    -- the octets that the prefix does not fill, in the last of sixteen, are as good as all of them
-    last_join : join_of (blank 16) (last_at octets (16 - suffix_octets (prefix_part octets)) (prefix_part octets)) (prefix_part octets) ≡ join_of (blank 16) (address_part octets) (prefix_part octets)
-    last_join =
+    -- the octets that the prefix does not fill
+    pub last_part : (whole : ℕ) → whole ≡ prefix_part octets / 8 → take (16 - whole) (drop whole octets) ≡ drop (16 - suffix_octets (prefix_part octets)) (address_part octets)
+    last_part whole e =
         let l = prefix_part octets in
-        let k = 16 - suffix_octets l in
-        let n = length-drop k (address_part octets) in
-        let e : take (suffix_octets l) (drop k octets) ≡ drop k (address_part octets) =
-        sym (take_drop_take (suffix_octets l) k 16 octets (omega arith)) ∙ take_all (suffix_octets l) (drop k (address_part octets)) (omega (arith, n, address_long)) in
-        ap (λ (xs : List ℕ). join_of (blank 16) (blank k ++ xs) l) e ∙ join_own l (address_part octets) f.low address_long
+        let k : 16 - suffix_octets l ≡ whole = omega (arith, f.low) in
+        rw k (between_is octets whole 16)
 
-    -- the value by where the parts are
-    pub value_at_lem : (whole : ℕ) → whole ≡ 16 - suffix_octets (prefix_part octets) → value_from (prefix_part octets) (last_at octets whole (prefix_part octets)) (drop 17 octets) ≡ draft_value octets
+    pub last_long : (whole : ℕ) → whole ≡ prefix_part octets / 8 → length (take (16 - whole) (drop whole octets)) ≡ suffix_octets (prefix_part octets)
+    last_long whole e = length-take-le (16 - whole) (drop whole octets) (omega (arith, f.long, f.low, length-drop whole octets)) ∙ omega (arith, f.low)
+
+    -- in the last of sixteen, they are as good as all of them: the value by where the parts are
+    pub value_parts : (whole : ℕ) → whole ≡ prefix_part octets / 8
+        → value_from (prefix_part octets) (in_last (prefix_part octets) (take (16 - whole) (drop whole octets))) (drop 17 octets) ≡ draft_value octets
     unfolding draft_value value_from rest_part
-    value_at_lem whole e =
+    value_parts whole e =
         let l = prefix_part octets in
-        let a = ap (λ (n : ℕ). join_of (blank 16) (last_at octets n l) l) e ∙ last_join in
+        let a = ap (λ (xs : List ℕ). join_of (blank 16) (in_last l xs) l) (last_part whole e) ∙ join_own l (address_part octets) f.low address_long in
         ap (λ (xs : List ℕ). record { prefix = l; address = xs; name = name_in l (drop 17 octets) }) a

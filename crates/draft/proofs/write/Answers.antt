@@ -7,12 +7,14 @@ use Rattle.a6.proofs.AcceptedLaws.{laid_answer, laid_out}
 use Rattle.draft.proofs.DataLaws.{data_laid}
 use Rattle.draft.proofs.write.Goals as goal
 
-pub lay-requires : goal.lay-requires
-lay-requires c = (search rules, search rules, omega arith)
-
-pub returns : goal.returns
-returns c =
+pub returns-clause-value : goal.returns-clause-value
+returns-clause-value c =
     let v = c.args.value in
     let long : length v.address ≡ 16 = search rules in
-    let d = data_laid v (omega (arith, long)) in
-    let r = c.lay.ensures in record { value = r.value ∙ laid_answer v 16 _ d _; out_after = r.out_after ∙ laid_out v 16 _ d _ }
+    c.lay.ensures.value ∙ laid_answer v 16 _ (data_laid v (omega (arith, long))) _
+
+pub returns-clause-out_after : goal.returns-clause-out_after
+returns-clause-out_after c =
+    let v = c.args.value in
+    let long : length v.address ≡ 16 = search rules in
+    c.lay.ensures.out_after ∙ laid_out v 16 _ (data_laid v (omega (arith, long))) _

@@ -1,73 +1,34 @@
 -- `a6::inside::ending` meets its contract: each test is one law of how data ends.
-use Prim.Native.Nat.{ℕ}
 use mathlib.Core.Path.{◌≡◌, ap, sym, ◌∙◌}
-use mathlib.Core.Bool.{Bool}
-use mathlib.Core.List.{List}
-use lib.ListN.{drop, length-drop}
 use native.Mathlib.Omega.{arith}
-use Rattle.labels.specs.Scan.{scan_of}
-use Rattle.labels.specs.Answers.{scanned}
-use Rattle.labels.specs.declared.Scanned.{Scanned}
-use Rattle.a6.specs.Ending.{name_found}
-use Rattle.a6.specs.Parts.{found_at}
-use Rattle.a6.proofs.EndingLaws.{found_none, found_some, ending_name, ending_left, ending_done, part_rest, refusing}
-use Rattle.a6.proofs.inside.ending.Goals.{After-scan-t, Start}
+use borrow.Author.Rules.{rules}
+use Rattle.std.specs.Prelude.{Err}
+use Rattle.octets.specs.Refusals.{number_of}
+use Rattle.labels.specs.Answers.{standard_by}
+use Rattle.a6.proofs.EndingLaws.{ending_refused, ending_more, ending_whole}
 use Rattle.a6.proofs.inside.ending.Goals as goal
 
--- the prefix length, and what is left of the data
-abbrev prefix : Start → ℕ
-prefix s = s.args.prefix
+pub returns-in_err-name-clause-number : goal.returns-in_err-name-clause-number
+returns-in_err-name-clause-number c =
+    let r : c.from_residual.result ≡ Err c.in_err-name.field-0.0 = search rules in
+    ap number_of r ∙ ending_refused c.args.prefix c.args.rest.now c.in_err-name.field-0.0 (sym c.in_err-name.was ∙ c.name_found.ensures)
 
-abbrev rest : Start → List ℕ
-rest s = drop s.args.rest s.args.rdata.now
+pub returns-then-name-rest-clause-number : goal.returns-then-name-rest-clause-number
+returns-then-name-rest-clause-number c =
+    ending_more c.args.prefix c.args.rest.now c.in_ok-name.name (sym c.in_ok-name.was ∙ c.name_found.ensures) c.if-name-rest.true
 
-abbrev start : After-scan-t → Start
-start c = c.before.before.before.before.before
+pub invariant_of-result : goal.invariant_of-result
+invariant_of-result c =
+    let w = sym c.in_ok-name.was ∙ c.name_found.ensures in
+    record {
+      low = c.requires.0;
+      whole = c.requires.1;
+      ended = sym (ending_whole c.args.prefix c.args.rest.now c.in_ok-name.name w c.if-name-rest.false);
+      suffix_small = λ i. omega (arith, c.type_inv.suffix i);
+      name_small = λ i. omega (arith, c.type_inv.rest i);
+      told = ap standard_by w;
+    }
 
--- what the scan has found
-found : (c : After-scan-t) → name_found (prefix (start c)) (rest (start c)) ≡ c.scan-t.result
-found c =
-    let a = c.args in
-    found_some a.prefix (rest (start c)) c.if-prefix-eq0.false ∙ sym (c.scan-t.ensures ∙ ap (λ (xs : List ℕ). scanned (scan_of xs)) (part_rest a.rdata.now a.rest))
-
-number : (c : After-scan-t) → (name_found (prefix (start c)) (rest (start c))).number ≡ c.scan-t.result.number
-number c = ap (λ (t : Scanned). t.number) (found c)
-
-used : (c : After-scan-t) → (name_found (prefix (start c)) (rest (start c))).used ≡ c.scan-t.result.used
-used c = ap (λ (t : Scanned). t.used) (found c)
-
-pub returns-then-left-gt0 : goal.returns-then-left-gt0
-returns-then-left-gt0 c =
-    let here = (goal.at.returns-then-left-gt0 c).Start in
-    let f = found_none (prefix here) (rest here) c.if-prefix-eq0.true in
-    refusing _ _ 12 c.missed.ensures (ending_left (prefix here) (rest here) (rw f) (rw f (omega (arith, length-drop c.args.rest c.args.rdata.now, c.if-left-gt0.true))))
-
-pub returns-then-prefix-eq0 : goal.returns-then-prefix-eq0
-returns-then-prefix-eq0 c =
-    let here = (goal.at.returns-then-prefix-eq0 c).Start in
-    let f = found_none (prefix here) (rest here) c.if-prefix-eq0.true in
-    let e = ending_done (prefix here) (rest here) (rw f) (rw f (omega (arith, length-drop c.args.rest c.args.rdata.now, c.if-left-gt0.false))) in
-    (sym e, λ z. ap (λ (b : Bool). found_at (prefix here) c.args.suffix c.args.rest b) (sym (ap (λ (t : Scanned). t.standard) f)))
-
-pub returns-then-number-ne0 : goal.returns-then-number-ne0
-returns-then-number-ne0 c =
-    let start = (goal.at.returns-then-number-ne0 c).Start in
-    let scan_t = (goal.at.returns-then-number-ne0 c).After-scan-t in
-    let bad = c.if-number-ne0.true in
-    let e = ending_name (prefix start) (rest start) (λ z. bad (sym (number scan_t) ∙ z)) ∙ number scan_t in
-    (c.missed-then-number-ne0.ensures ∙ sym e, λ z. absurd (bad (sym e ∙ z)))
-
-pub returns-then-used-left : goal.returns-then-used-left
-returns-then-used-left c =
-    let start = (goal.at.returns-then-used-left c).Start in
-    let scan_t = (goal.at.returns-then-used-left c).After-scan-t in
-    let a = c.args in
-    refusing _ _ 12 c.missed-then-used-left.ensures (ending_left a.prefix (rest start) (number scan_t ∙ c.if-number-ne0.false) (omega (arith, used scan_t, length-drop a.rest a.rdata.now, c.if-used-left.true)))
-
-pub returns : goal.returns
-returns c =
-    let start = (goal.at.returns c).Start in
-    let scan_t = (goal.at.returns c).After-scan-t in
-    let a = c.args in
-    let e = ending_done a.prefix (rest start) (number scan_t ∙ c.if-number-ne0.false) (omega (arith, used scan_t, length-drop a.rest a.rdata.now, c.if-used-left.false)) in
-    (sym e, λ z. ap (λ (b : Bool). found_at a.prefix a.suffix a.rest b) (sym (ap (λ (t : Scanned). t.standard) (found scan_t))))
+pub returns-clause-number : goal.returns-clause-number
+returns-clause-number c =
+    ending_whole c.args.prefix c.args.rest.now c.in_ok-name.name (sym c.in_ok-name.was ∙ c.name_found.ensures) c.if-name-rest.false
