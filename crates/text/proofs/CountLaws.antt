@@ -1,10 +1,14 @@
 -- Laws of counting groups, and of groups as octets.
-use Prim.Native.Nat.{ℕ, ◌+◌, ◌*◌, ◌/◌, ◌%◌, ◌≤◌, ◌<◌}
-use mathlib.Core.Path.{◌≡◌, refl, ap, sym, ◌∙◌}
+use Prim.Native.Nat.{ℕ, suc, ◌+◌, ◌*◌, ◌/◌, ◌%◌, ◌≤◌, ◌<◌}
+use mathlib.Core.Path.{◌≡◌, refl, ap, sym, subst, ◌∙◌}
 use mathlib.Core.Bool.{Bool, true, false}
-use mathlib.Core.List.{List, [], ◌∷◌}
+use mathlib.Core.List.{List, [], ◌∷◌, ◌++◌, append_assoc}
+use Rattle.std.specs.Prelude.{Some, None}
 use lib.Dec.{ltb, eqb}
-use lib.ListN.{length, get_or, drop}
+use lib.ListN.{length, get_or, take, drop, set, length-set}
+use lib.Seq.{take_all}
+use Rattle.std.specs.Int.{w16, to_be_bytes}
+use Rattle.std.proofs.Math.Seq.{take-suc, take-suc-set}
 use native.Mathlib.Omega.{arith}
 use Rattle.text.proofs.PlaceLaws.{past, from_place}
 use native.Mathlib.Numerals.{add-one}
@@ -53,17 +57,14 @@ counting_start text = record { few = omega arith; low = omega arith; same = refl
 
 -- one octet more: it goes on, or the text is no groups
 abbrev pub Stepped : List ℕ → Tally → ℕ → Type 0
-Stepped text t i = ((step_of t (get_or text i 0)).digits ≤ 4 → Counting text (step_of t (get_or text i 0)) (i + 1)) × (4 < (step_of t (get_or text i 0)).digits → are_groups 0 text ≡ false)
+Stepped text t i = ((r : Tally) → step_of t (get_or text i 0) ≡ Some r → Counting text r (i + 1)) × (step_of t (get_or text i 0) ≡ None → are_groups 0 text ≡ false)
 
-counting_fails : (text : List ℕ) (t : Tally) (i : ℕ) → step_of t (get_or text i 0) ≡ record { digits = 5; groups = t.groups } → are_groups 0 text ≡ false → Stepped text t i
-counting_fails text t i e f =
-    let d = ap (λ (r : Tally). r.digits) e in
-    (λ h. let z : ⊥ = omega arith in absurd z, λ h. f)
+counting_fails : (text : List ℕ) (t : Tally) (i : ℕ) → step_of t (get_or text i 0) ≡ None → are_groups 0 text ≡ false → Stepped text t i
+counting_fails text t i e f = (λ r h. let z : ⊥ = cc in absurd z, λ h. f)
 
-counting_goes : (text : List ℕ) (t r : Tally) (i : ℕ) → step_of t (get_or text i 0) ≡ r → Counting text r (i + 1) → Stepped text t i
+counting_goes : (text : List ℕ) (t r : Tally) (i : ℕ) → step_of t (get_or text i 0) ≡ Some r → Counting text r (i + 1) → Stepped text t i
 counting_goes text t r i e k =
-    let d = ap (λ (r : Tally). r.digits) e in
-    (λ h. (rw e k), λ h. let f = k.few in let z : ⊥ = omega arith in absurd z)
+    (λ q h. (let s : r ≡ q = cc in subst (λ (x : Tally). Counting text x (i + 1)) s k), λ h. let z : ⊥ = cc in absurd z)
 
 pub counting_turn : (text : List ℕ) (t : Tally) (i : ℕ) → Counting text t i → i < length text → Stepped text t i
 counting_turn text t i k h = go (eqb (get_or text i 0) 58) refl
@@ -119,31 +120,46 @@ counting_end text t i k h =
     (sym k.same ∙ ap (are_groups t.digits) (past text i h), omega (arith, k.counted))
 
 -- what the count is
-pub count_none : (text : List ℕ) → length text ≡ 0 → record { formed = true; count = 0 } ≡ count_of text
+pub count_none : (text : List ℕ) → length text ≡ 0 → Some 0 ≡ count_of text
 unfolding count_of is_side side_groups
 count_none [] h = refl
 count_none (c ∷ cs) h = let z : ⊥ = omega arith in absurd z
 
-pub count_bad : (text : List ℕ) → 0 < length text → are_groups 0 text ≡ false → record { formed = false; count = 0 } ≡ count_of text
+pub count_bad : (text : List ℕ) → 0 < length text → are_groups 0 text ≡ false → None ≡ count_of text
 unfolding count_of
 count_bad text h e = let s = side_is text h ∙ e in sym (rw (s, count_of))
 
-pub count_good : (text : List ℕ) (n : ℕ) → 0 < length text → are_groups 0 text ≡ true → n ≡ length (groups_from 0 text) → record { formed = true; count = n } ≡ count_of text
+pub count_good : (text : List ℕ) (n : ℕ) → 0 < length text → are_groups 0 text ≡ true → n ≡ length (groups_from 0 text) → Some n ≡ count_of text
 unfolding count_of
 count_good text n h e f =
     let s = side_is text h ∙ e in
     let g : n ≡ length (side_groups text) = f ∙ ap length (sym (side_all text h)) in
     sym (rw (s, count_of, g))
 
--- eight groups as octets
-octets_from : (gs : List ℕ) (k : ℕ) → k < length gs → octets_of (drop k gs) ≡ get_or gs k 0 / 256 ∷ get_or gs k 0 % 256 ∷ octets_of (drop (k + 1) gs)
+-- groups as octets, one group more
+octets_append : (gs : List ℕ) (g : ℕ) → octets_of (gs ++ (g ∷ [])) ≡ octets_of gs ++ (g / 256 ∷ g % 256 ∷ [])
 unfolding octets_of
-octets_from gs k h = ap octets_of (from_place gs k h)
+octets_append [] g = refl
+octets_append (x ∷ gs) g = rw (octets_append gs g)
 
-pub octets_eight : (g : List ℕ) → length g ≡ 8
-    → octets_of g ≡ get_or g 0 0 / 256 ∷ get_or g 0 0 % 256 ∷ get_or g 1 0 / 256 ∷ get_or g 1 0 % 256 ∷ get_or g 2 0 / 256 ∷ get_or g 2 0 % 256 ∷ get_or g 3 0 / 256 ∷ get_or g 3 0 % 256
-    ∷ get_or g 4 0 / 256 ∷ get_or g 4 0 % 256 ∷ get_or g 5 0 / 256 ∷ get_or g 5 0 % 256 ∷ get_or g 6 0 / 256 ∷ get_or g 6 0 % 256 ∷ get_or g 7 0 / 256 ∷ get_or g 7 0 % 256 ∷ []
-octets_eight g h =
-    let e : octets_of (drop 8 g) ≡ [] = unfold octets_of in rw (past g 8 (omega arith)) in
-    octets_from g 0 (omega arith)
-    ∙ rw (octets_from g 1 (omega arith), octets_from g 2 (omega arith), octets_from g 3 (omega arith), octets_from g 4 (omega arith), octets_from g 5 (omega arith), octets_from g 6 (omega arith), octets_from g 7 (omega arith), e)
+pub octets_start : (o g : List ℕ) → take 0 o ≡ octets_of (take 0 g)
+unfolding octets_of
+octets_start o g = refl
+
+pub octets_turn : (g o two : List ℕ) (i : ℕ) → i < length g → get_or g i 0 < 65536 → 2 * i + 2 ≤ length o → two ≡ to_be_bytes w16 (get_or g i 0) → take (2 * i) o ≡ octets_of (take i g)
+    → take (2 * (i + 1)) (set (set o (2 * i) (get_or two 0 0)) (2 * i + 1) (get_or two 1 0)) ≡ octets_of (take (i + 1) g)
+octets_turn g o two i h l r t e =
+    let n = get_or g i 0 in
+    let x : get_or two 0 0 ≡ get_or g i 0 / 256 = ap (λ (w : List ℕ). get_or w 0 0) t ∙ omega arith in
+    let y : get_or two 1 0 ≡ get_or g i 0 % 256 = ap (λ (w : List ℕ). get_or w 1 0) t ∙ omega arith in
+    let k : 2 * (i + 1) ≡ suc (2 * i + 1) = omega arith in
+    let m : 2 * i + 1 ≡ suc (2 * i) = omega arith in
+    let j : i + 1 ≡ suc i = omega arith in
+    let s = length-set o (2 * i) (n / 256) in
+    let a : take (suc (2 * i + 1)) (set (set o (2 * i) (n / 256)) (2 * i + 1) (n % 256)) ≡ take (2 * i + 1) (set o (2 * i) (n / 256)) ++ (n % 256 ∷ []) = take-suc-set _ (2 * i + 1) (n % 256) (omega arith) in
+    let b : take (suc (2 * i)) (set o (2 * i) (n / 256)) ≡ take (2 * i) o ++ (n / 256 ∷ []) = take-suc-set o (2 * i) (n / 256) (omega arith) in
+    let c : take (suc i) g ≡ take i g ++ (n ∷ []) = take-suc g i 0 h in
+    rw (x, y, k, a) (rw (ap (λ (z : ℕ). take z (set o (2 * i) (n / 256))) m, b, e, j, c) (append_assoc (octets_of (take i g)) (n / 256 ∷ []) (n % 256 ∷ []) ∙ sym (octets_append (take i g) n)))
+
+pub octets_end : (g o : List ℕ) (i : ℕ) → length g ≤ i → length o ≤ 2 * i → take (2 * i) o ≡ octets_of (take i g) → o ≡ octets_of g
+octets_end g o i h k e = sym (take_all (2 * i) o k) ∙ e ∙ ap octets_of (take_all i g h)

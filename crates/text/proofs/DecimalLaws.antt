@@ -9,14 +9,13 @@ use lib.Seq.{get_or-drop, drop-append_seam}
 use native.Mathlib.Omega.{arith}
 use Rattle.text.proofs.PlaceLaws.{past, from_place}
 use native.Mathlib.Nat.{add-zero}
-use borrow.Author.Tests.{lt-ltb, ltb-true, ltb-false, leb-true, le-leb, lt-leb, eq-eqb, ne_eqb, eqb-true, eqb-false}
+use borrow.Author.Tests.{lt-ltb, ltb-true, ltb-false, leb-true, le-leb, eq-eqb, ne_eqb, eqb-true, eqb-false}
 use Rattle.octets.specs.Each.{Under}
 use Rattle.octets.proofs.OctetLaws.{under_cons}
 use Rattle.octets.proofs.BoolLaws.{or_true}
 use Rattle.text.specs.declared.numbers.Decimal.{Decimal}
 use Rattle.text.specs.Digits.{between, digits_of, number_from, digit_octet, number_text, leading}
 use Rattle.text.specs.Decimal.{write_decimal, digit_count, decimal_from, decimal_of, is_decimal, decimal_at}
-use Rattle.text.specs.Figures.{figure_of}
 use Rattle.text.proofs.DigitLaws.{number_digits, digits_under, digits_some, digits_few, digits_number, digits_lead, digits_of_last, octet_figure}
 
 -- tests joined
@@ -194,30 +193,6 @@ decimal_written (c ∷ cs) e = go (between 48 57 c) refl
         sym (text_figures (c ∷ cs)) ∙ rw (figures_more c cs f, w)
     go false f = let n = count_other c cs f in let p = ltb-true 0 (digit_count (c ∷ cs)) parts.0 in let z : ⊥ = omega arith in absurd z
 
--- the digit of an octet
-pub figure_in : (c : ℕ) → between 48 57 c ≡ true → figure_of c ≡ c - 48
-unfolding figure_of
-figure_in c e = rw (e, figure_of)
-
-pub figure_out : (c : ℕ) → between 48 57 c ≡ false → figure_of c ≡ 10
-unfolding figure_of
-figure_out c e = rw (e, figure_of)
-
--- nine or less is a digit, and anything else is none
-figure_is : (c : ℕ) → figure_of c < 10 → between 48 57 c ≡ true
-figure_is c h = go (between 48 57 c) refl
-  where
-    go : (t : Bool) → between 48 57 c ≡ t → t ≡ true
-    go true e = refl
-    go false e = let f = figure_out c e in let z : ⊥ = omega arith in absurd z
-
-figure_not : (c : ℕ) → 10 ≤ figure_of c → between 48 57 c ≡ false
-figure_not c h = go (between 48 57 c) refl
-  where
-    go : (t : Bool) → between 48 57 c ≡ t → t ≡ false
-    go true e = let f = figure_in c e in let b = between_is 48 57 c e in let z : ⊥ = omega arith in absurd z
-    go false e = refl
-
 -- a number that is cut off at a bound stays cut off as digits follow
 cut_from : (cap v w : ℕ) (xs : List ℕ) → min cap v ≡ min cap w → min cap (decimal_from v xs) ≡ min cap (decimal_from w xs)
 cut_from cap v w [] e = unfold decimal_from in e
@@ -237,30 +212,31 @@ pub passed_none : (s : List ℕ) (from cap : ℕ) → Passed s from cap from 0
 unfolding decimal_of
 passed_none s from cap = record { counted = refl; valued = refl; low = omega arith }
 
-pub passed_turn : (s : List ℕ) (from cap i v : ℕ) → Passed s from cap i v → i < length s → figure_of (get_or s i 0) < 10 → Passed s from cap (i + 1) (min (v * 10 + figure_of (get_or s i 0)) cap)
-passed_turn s from cap i v p h d =
+pub passed_turn : (s : List ℕ) (from cap i v : ℕ) → Passed s from cap i v → i < length s → between 48 57 (get_or s i 0) ≡ true → Passed s from cap (i + 1) (min (v * 10 + (get_or s i 0 - 48)) cap)
+passed_turn s from cap i v p h b =
     let c = get_or s i 0 in
-    let b = figure_is c d in
-    let f = figure_in c b in
     let e = from_place s i h in
     let n = ap digit_count e ∙ count_figure c (drop (i + 1) s) b in
     let w : decimal_from v (drop i s) ≡ decimal_from (v * 10 + (c - 48)) (drop (i + 1) s) = ap (decimal_from v) e ∙ value_figure v c (drop (i + 1) s) b in
-    let m : min cap (min (v * 10 + figure_of c) cap) ≡ min cap (v * 10 + (c - 48)) = omega arith in
+    let m : min cap (min (v * 10 + (c - 48)) cap) ≡ min cap (v * 10 + (c - 48)) = omega arith in
     record {
       counted = omega (arith, p.counted);
-      valued = cut_from cap (min (v * 10 + figure_of c) cap) (v * 10 + (c - 48)) (drop (i + 1) s) m ∙ ap (min cap) (sym w) ∙ p.valued;
+      valued = cut_from cap (min (v * 10 + (c - 48)) cap) (v * 10 + (c - 48)) (drop (i + 1) s) m ∙ ap (min cap) (sym w) ∙ p.valued;
       low = omega arith;
     }
 
 -- where no digit follows, all is found
-pub passed_stop : (s : List ℕ) (from cap i v : ℕ) → Passed s from cap i v → digit_count (drop i s) ≡ 0 → (i ≡ from + digit_count (drop from s)) × (v ≡ min cap (decimal_of (drop from s)))
+abbrev pub Stopped : List ℕ → ℕ → ℕ → ℕ → ℕ → Type 0
+Stopped s from cap i v = (i ≡ from + digit_count (drop from s)) × (v ≡ min cap (decimal_of (drop from s)))
+
+pub passed_stop : (s : List ℕ) (from cap i v : ℕ) → Passed s from cap i v → digit_count (drop i s) ≡ 0 → Stopped s from cap i v
 passed_stop s from cap i v p h =
     let n = value_none v (drop i s) h in
     let k : min cap (decimal_from v (drop i s)) ≡ min cap v = ap (min cap) n in
     (omega (arith, p.counted), omega (arith, p.valued, p.low))
 
-pub stop_other : (s : List ℕ) (i : ℕ) → i < length s → 10 ≤ figure_of (get_or s i 0) → digit_count (drop i s) ≡ 0
-stop_other s i h d = ap digit_count (from_place s i h) ∙ count_other (get_or s i 0) (drop (i + 1) s) (figure_not (get_or s i 0) d)
+pub stop_other : (s : List ℕ) (i : ℕ) → i < length s → between 48 57 (get_or s i 0) ≡ false → digit_count (drop i s) ≡ 0
+stop_other s i h d = ap digit_count (from_place s i h) ∙ count_other (get_or s i 0) (drop (i + 1) s) d
 
 pub stop_end : (s : List ℕ) (i : ℕ) → length s ≤ i → digit_count (drop i s) ≡ 0
 unfolding leading
@@ -278,16 +254,6 @@ form_zero xs h e = rw (lt-ltb 0 (digit_count xs) h, eq-eqb (get_or xs 0 0) 48 e)
 pub form_some : (xs : List ℕ) → 0 < digit_count xs → (get_or xs 0 0 ≡ 48 → ⊥) → is_decimal xs ≡ true
 unfolding is_decimal
 form_some xs h e = rw (lt-ltb 0 (digit_count xs) h, ne_eqb (get_or xs 0 0) 48 e)
-
--- the digit of an octet, by its order
-pub figure_below : (c : ℕ) → c < 48 → figure_of c ≡ 10
-figure_below c h = figure_out c (rw (lt-leb 48 c h))
-
-pub figure_above : (c : ℕ) → 57 < c → figure_of c ≡ 10
-figure_above c h = figure_out c (rw (le-leb 48 c (omega arith), lt-leb c 57 h))
-
-pub figure_between : (c : ℕ) → 48 ≤ c → c ≤ 57 → figure_of c ≡ c - 48
-figure_between c l h = figure_in c (is_between 48 57 c l h)
 
 -- where a digit stands, the text has not ended
 pub inside : (s : List ℕ) (i : ℕ) → 0 < digit_count (drop i s) → i < length s

@@ -3,13 +3,14 @@ use Prim.Native.Nat.{ℕ, suc, ◌+◌, ◌-◌, ◌*◌, ◌≤◌, ◌<◌}
 use mathlib.Core.Path.{◌≡◌, refl, ap, sym, ◌∙◌}
 use mathlib.Core.Bool.{Bool, true, false, ◌&&◌}
 use mathlib.Core.List.{List, [], ◌∷◌}
+use Rattle.std.specs.Prelude.{Some, None}
 use lib.Dec.{ltb, leb, eqb}
 use lib.ListN.{length, get_or, drop, set, length-set, get_or-eq_default}
 use lib.Seq.{get_or-drop}
 use native.Mathlib.Omega.{arith}
 use Rattle.text.proofs.PlaceLaws.{past, from_place}
 use native.Mathlib.Nat.{add-zero}
-use borrow.Author.Tests.{lt-ltb, le-ltb, lt-leb, leb-true, eq-eqb, ne_eqb, eqb-true, eqb-false}
+use borrow.Author.Tests.{lt-ltb, le-ltb, ltb-true, ltb-false, lt-leb, leb-true, eq-eqb, ne_eqb, eqb-true, eqb-false}
 use Rattle.octets.specs.Each.{Under}
 use Rattle.octets.proofs.BoolLaws.{and_false}
 use Rattle.text.specs.declared.reading.Tally.{Tally}
@@ -94,6 +95,13 @@ two_both s i h l = go (eqb (get_or s i 0) 58) (eqb (get_or s (i + 1) 0) 58) refl
         let p = eqb-false (get_or s i 0) 58 e in
         ne_eqb (get_or s i 0 * 256 + get_or s (i + 1) 0) 14906 (omega arith) ∙ sym (two_at s i ∙ rw e)
 
+-- two octets read as one number tell it
+pub two_word : (s : List ℕ) (i j n : ℕ) → i + 1 ≡ j → get_or s i 0 < 256 → get_or s j 0 < 256 → n ≡ get_or s i 0 * 256 + get_or s j 0 → eqb n 14906 ≡ two_colons (drop i s)
+two_word s i j n e a b w =
+    let f : n ≡ get_or s i 0 * 256 + get_or s (i + 1) 0 = w ∙ ap (λ (k : ℕ). get_or s i 0 * 256 + get_or s k 0) (sym e) in
+    let g : get_or s (i + 1) 0 < 256 = rw (sym e) at b in
+    ap (λ (m : ℕ). eqb m 14906) f ∙ two_both s i a g
+
 pub gap_turn : (s : List ℕ) (i : ℕ) → i < length s → two_colons (drop i s) ≡ false → gap_of (drop i s) ≡ suc (gap_of (drop (i + 1) s))
 unfolding gap_of
 gap_turn s i h e = let f : two_colons (get_or s i 0 ∷ drop (i + 1) s) ≡ false = ap two_colons (sym (from_place s i h)) ∙ e in ap gap_of (from_place s i h) ∙ rw (f, gap_of)
@@ -106,25 +114,37 @@ pub gap_end : (s : List ℕ) (i : ℕ) → length s ≤ i → gap_of (drop i s) 
 unfolding gap_of
 gap_end s i h = rw (past s i h)
 
+-- where no place before the last one has two colons, none has
+pub gap_all : (s : List ℕ) (end : ℕ) → length s ≤ end → (1 ≤ length s → end ≤ length s) → end - 1 + gap_of (drop (end - 1) s) ≡ gap_of s → length s ≤ gap_of s
+gap_all s end h k e = go (ltb 0 (length s)) refl
+  where
+    go : (t : Bool) → ltb 0 (length s) ≡ t → length s ≤ gap_of s
+    go true l =
+        let p = ltb-true 0 (length s) l in
+        let f = k p in
+        let t = gap_turn s (end - 1) (omega arith) (two_end s (end - 1) (omega arith)) in
+        omega arith
+    go false l = let p = ltb-false 0 (length s) l in omega arith
+
 -- one octet more of text that is groups
 module _ (t : Tally) (c : ℕ) where
-  pub step_empty : c ≡ 58 → t.digits ≡ 0 → step_of t c ≡ record { digits = 5; groups = t.groups }
+  pub step_empty : c ≡ 58 → t.digits ≡ 0 → step_of t c ≡ None
   unfolding step_of
   step_empty e f = rw (eq-eqb c 58 e, step_of, eq-eqb t.digits 0 f)
 
-  pub step_colon : c ≡ 58 → (t.digits ≡ 0 → ⊥) → step_of t c ≡ record { digits = 0; groups = t.groups + 1 }
+  pub step_colon : c ≡ 58 → (t.digits ≡ 0 → ⊥) → step_of t c ≡ Some (record { digits = 0; groups = t.groups + 1 })
   unfolding step_of
   step_colon e f = rw (eq-eqb c 58 e, step_of, ne_eqb t.digits 0 f)
 
-  pub step_other : (c ≡ 58 → ⊥) → 16 ≤ digit_in c → step_of t c ≡ record { digits = 5; groups = t.groups }
+  pub step_other : (c ≡ 58 → ⊥) → 16 ≤ digit_in c → step_of t c ≡ None
   unfolding step_of
   step_other e f = rw (ne_eqb c 58 e, step_of, le-ltb (digit_in c) 16 f)
 
-  pub step_long : (c ≡ 58 → ⊥) → 4 ≤ t.digits → step_of t c ≡ record { digits = 5; groups = t.groups }
+  pub step_long : (c ≡ 58 → ⊥) → 4 ≤ t.digits → step_of t c ≡ None
   unfolding step_of
   step_long e f = rw (ne_eqb c 58 e, step_of, le-ltb t.digits 4 f, and_false (ltb (digit_in c) 16))
 
-  pub step_digit : (c ≡ 58 → ⊥) → digit_in c < 16 → t.digits < 4 → step_of t c ≡ record { digits = t.digits + 1; groups = t.groups }
+  pub step_digit : (c ≡ 58 → ⊥) → digit_in c < 16 → t.digits < 4 → step_of t c ≡ Some (record { digits = t.digits + 1; groups = t.groups })
   unfolding step_of
   step_digit e f g = rw (ne_eqb c 58 e, step_of, lt-ltb (digit_in c) 16 f, lt-ltb t.digits 4 g)
 

@@ -3,29 +3,33 @@ use Prim.Native.Nat.{ℕ, suc, ◌+◌, ◌-◌, ◌*◌, ◌≤◌, ◌<◌}
 use mathlib.Core.Path.{◌≡◌, refl, ap, sym, ◌∙◌}
 use mathlib.Core.Bool.{Bool, true, false}
 use mathlib.Core.List.{List, [], ◌∷◌, ◌++◌}
-use lib.Dec.{ltb}
+use lib.Dec.{ltb, eqb}
+use Rattle.std.specs.Int.{w16, from_be_bytes}
+use Rattle.std.specs.List.{prefix_len, take_while}
+use Rattle.std.proofs.lemmas.List.Folds.{length-prefix_len}
 use lib.ListN.{length, get_or, take, drop, length-drop}
 use lib.Seq.{take_all}
 use native.Mathlib.Omega.{arith}
 use Rattle.text.proofs.PlaceLaws.{past, from_place}
 use native.Mathlib.Numerals.{add-one}
-use borrow.Author.Tests.{lt-ltb, le-ltb, ltb-true, ltb-false}
+use borrow.Author.Tests.{lt-ltb, le-ltb, ltb-true, ltb-false, eqb-true, eqb-false}
 use Rattle.text.specs.declared.addresses.Run.{Run}
 use Rattle.text.specs.Digits.{number_text}
-use Rattle.text.specs.Groups.{groups_of, zeros_at, longest, place_of, run_of, better}
+use Rattle.text.specs.Groups.{groups_of, zeros_at, longest, place_of, run_of}
 use Rattle.text.specs.AddressText.{more_text, groups_text}
 use Rattle.text.proofs.GroupLaws.{zeros_more, zeros_none, place_here, place_later, longest_most}
 
--- zero groups from a place on
-pub zeros_turn : (gs : List ℕ) (i : ℕ) → i < length gs → get_or gs i 0 ≡ 0 → zeros_at (drop i gs) ≡ suc (zeros_at (drop (i + 1) gs))
-zeros_turn gs i h e = ap zeros_at (from_place gs i h) ∙ zeros_more (get_or gs i 0) (drop (i + 1) gs) e
+-- zero groups at the start, as the library counts them
+zeros_prefix : (gs : List ℕ) → prefix_len (λ g. eqb g 0) gs ≡ zeros_at gs
+zeros_prefix [] = unfold zeros_at in refl
+zeros_prefix (g ∷ gs) = go (eqb g 0) refl (zeros_prefix gs)
+  where
+    go : (t : Bool) → eqb g 0 ≡ t → prefix_len (λ g. eqb g 0) gs ≡ zeros_at gs → prefix_len (λ g. eqb g 0) (g ∷ gs) ≡ zeros_at (g ∷ gs)
+    go true e k = let z = zeros_more g gs (eqb-true g 0 e) in rw (e, z) (omega arith)
+    go false e k = let z = zeros_none g gs (eqb-false g 0 e) in rw (e, z)
 
-pub zeros_stop : (gs : List ℕ) (i : ℕ) → i < length gs → (get_or gs i 0 ≡ 0 → ⊥) → zeros_at (drop i gs) ≡ 0
-zeros_stop gs i h e = ap zeros_at (from_place gs i h) ∙ zeros_none (get_or gs i 0) (drop (i + 1) gs) e
-
-pub zeros_end : (gs : List ℕ) (i : ℕ) → length gs ≤ i → zeros_at (drop i gs) ≡ 0
-unfolding zeros_at
-zeros_end gs i h = rw (past gs i h)
+pub zeros_while : (gs : List ℕ) → length (take_while (λ g. eqb g 0) gs) ≡ zeros_at gs
+zeros_while gs = length-prefix_len (λ g. eqb g 0) gs ∙ zeros_prefix gs
 
 -- text of groups from a place on
 pub more_turn : (gs : List ℕ) (i : ℕ) → i < length gs → more_text (drop i gs) ≡ 58 ∷ (number_text 16 (get_or gs i 0) ++ more_text (drop (i + 1) gs))
@@ -36,15 +40,18 @@ pub more_end : (gs : List ℕ) (i : ℕ) → length gs ≤ i → more_text (drop
 unfolding more_text
 more_end gs i h = rw (past gs i h)
 
-pub groups_first : (gs : List ℕ) → 0 < length gs → groups_text gs ≡ number_text 16 (get_or gs 0 0) ++ more_text (drop 1 gs)
+pub groups_parts : (gs : List ℕ) (g : ℕ) (more : List ℕ) → gs ≡ g ∷ more → groups_text gs ≡ number_text 16 g ++ more_text more
 unfolding groups_text
-groups_first [] h = let z : ⊥ = omega arith in absurd z
-groups_first (g ∷ gs) h = refl
+groups_parts gs g more e = rw e
 
 pub groups_none : (gs : List ℕ) → length gs ≡ 0 → groups_text gs ≡ []
 unfolding groups_text
 groups_none [] h = refl
 groups_none (g ∷ gs) h = let z : ⊥ = omega arith in absurd z
+
+-- two octets as one number
+pub group_is : (n x y : ℕ) → n ≡ from_be_bytes w16 (x ∷ y ∷ []) → n ≡ x * 256 + y
+group_is n x y e = e ∙ omega arith
 
 -- the groups of sixteen octets, one by one
 groups_from_lem : (a : List ℕ) (k : ℕ) → k + 2 ≤ length a → groups_of (drop k a) ≡ (get_or a k 0 * 256 + get_or a (k + 1) 0) ∷ groups_of (drop (k + 2) a)
@@ -74,14 +81,6 @@ over_old : (i : ℕ) (run : Run) (ds : List ℕ) → longest ds ≤ run.count �
 unfolding run_over
 over_old i run ds h = rw (le-ltb run.count (longest ds) h, run_over)
 
-pub better_new : (run : Run) (i n : ℕ) → run.count < n → better run i n ≡ record { place = i; count = n }
-unfolding better
-better_new run i n h = rw (lt-ltb run.count n h, better)
-
-pub better_old : (run : Run) (i n : ℕ) → n ≤ run.count → better run i n ≡ run
-unfolding better
-better_old run i n h = rw (le-ltb run.count n h, better)
-
 run_eq : (p q m n : ℕ) → p ≡ q → m ≡ n → ◌≡◌ {A = Run} (record { place = p; count = m }) (record { place = q; count = n })
 run_eq p q m n e f = λ i. record { place = e i; count = f i }
 
@@ -96,15 +95,15 @@ over_later i run g ds z h =
     run_eq (suc i + place_of (longest ds) ds) (i + place_of (longest (g ∷ ds)) (g ∷ ds)) (longest ds) (longest (g ∷ ds)) (omega arith) (omega arith)
     ∙ sym (over_new i run (g ∷ ds) (omega arith))
 
-over_cons : (i : ℕ) (run : Run) (g : ℕ) (ds : List ℕ) → run_over (suc i) (better run i (zeros_at (g ∷ ds))) ds ≡ run_over i run (g ∷ ds)
+over_cons_new : (i : ℕ) (run : Run) (g : ℕ) (ds : List ℕ) → run.count < zeros_at (g ∷ ds) → run_over (suc i) (record { place = i; count = zeros_at (g ∷ ds) }) ds ≡ run_over i run (g ∷ ds)
 unfolding longest
-over_cons i run g ds = go (ltb run.count (zeros_at (g ∷ ds))) refl
+over_cons_new i run g ds h = go (ltb (zeros_at (g ∷ ds)) (longest ds)) refl
   where
-    new : run.count < zeros_at (g ∷ ds) → (t : Bool) → ltb (zeros_at (g ∷ ds)) (longest ds) ≡ t → run_over (suc i) (record { place = i; count = zeros_at (g ∷ ds) }) ds ≡ run_over i run (g ∷ ds)
-    new h true e =
+    go : (t : Bool) → ltb (zeros_at (g ∷ ds)) (longest ds) ≡ t → run_over (suc i) (record { place = i; count = zeros_at (g ∷ ds) }) ds ≡ run_over i run (g ∷ ds)
+    go true e =
         let l = ltb-true (zeros_at (g ∷ ds)) (longest ds) e in
         over_new (suc i) (record { place = i; count = zeros_at (g ∷ ds) }) ds l ∙ over_later i run g ds l (omega arith)
-    new h false e =
+    go false e =
         let l = ltb-false (zeros_at (g ∷ ds)) (longest ds) e in
         let m : longest (g ∷ ds) ≡ zeros_at (g ∷ ds) = omega arith in
         let p = place_here (longest (g ∷ ds)) g ds (sym m) in
@@ -112,30 +111,24 @@ over_cons i run g ds = go (ltb run.count (zeros_at (g ∷ ds))) refl
         ∙ run_eq i (i + place_of (longest (g ∷ ds)) (g ∷ ds)) (zeros_at (g ∷ ds)) (longest (g ∷ ds)) (omega arith) (omega arith)
         ∙ sym (over_new i run (g ∷ ds) (omega arith))
 
-    old : zeros_at (g ∷ ds) ≤ run.count → (t : Bool) → ltb run.count (longest ds) ≡ t → run_over (suc i) run ds ≡ run_over i run (g ∷ ds)
-    old h true e = let l = ltb-true run.count (longest ds) e in over_new (suc i) run ds l ∙ over_later i run g ds (omega arith) l
-    old h false e =
+over_cons_old : (i : ℕ) (run : Run) (g : ℕ) (ds : List ℕ) → zeros_at (g ∷ ds) ≤ run.count → run_over (suc i) run ds ≡ run_over i run (g ∷ ds)
+unfolding longest
+over_cons_old i run g ds h = go (ltb run.count (longest ds)) refl
+  where
+    go : (t : Bool) → ltb run.count (longest ds) ≡ t → run_over (suc i) run ds ≡ run_over i run (g ∷ ds)
+    go true e = let l = ltb-true run.count (longest ds) e in over_new (suc i) run ds l ∙ over_later i run g ds (omega arith) l
+    go false e =
         let l = ltb-false run.count (longest ds) e in
         let m : longest (g ∷ ds) ≤ run.count = omega arith in
         over_old (suc i) run ds l ∙ sym (over_old i run (g ∷ ds) m)
 
-    go : (t : Bool) → ltb run.count (zeros_at (g ∷ ds)) ≡ t → run_over (suc i) (better run i (zeros_at (g ∷ ds))) ds ≡ run_over i run (g ∷ ds)
-    go true e =
-        let l = ltb-true run.count (zeros_at (g ∷ ds)) e in
-        ap (λ (r : Run). run_over (suc i) r ds) (better_new run i (zeros_at (g ∷ ds)) l) ∙ new l (ltb (zeros_at (g ∷ ds)) (longest ds)) refl
-    go false e =
-        let l = ltb-false run.count (zeros_at (g ∷ ds)) e in
-        ap (λ (r : Run). run_over (suc i) r ds) (better_old run i (zeros_at (g ∷ ds)) l) ∙ old l (ltb run.count (longest ds)) refl
+-- a turn of the loop over the places: a longer run stands there, or none
+module _ (gs : List ℕ) (i : ℕ) (run : Run) (h : i < length gs) where
+  pub run_new : run.count < zeros_at (drop i gs) → run_over (i + 1) (record { place = i; count = zeros_at (drop i gs) }) (drop (i + 1) gs) ≡ run_over i run (drop i gs)
+  run_new l = rw (from_place gs i h, add-one i) (over_cons_new i run (get_or gs i 0) (drop (suc i) gs) (rw (from_place gs i h, add-one i) at l))
 
--- a turn of the loop over the places
-pub run_turn : (gs : List ℕ) (i : ℕ) (run : Run) → i < length gs → run_over (i + 1) (better run i (zeros_at (drop i gs))) (drop (i + 1) gs) ≡ run_over i run (drop i gs)
-run_turn gs i run h =
-    let e = from_place gs i h in
-    let s : i + 1 ≡ suc i = add-one i in
-    ap (λ (k : ℕ). run_over k (better run i (zeros_at (drop i gs))) (drop (i + 1) gs)) s
-    ∙ ap (λ (l : List ℕ). run_over (suc i) (better run i (zeros_at l)) (drop (i + 1) gs)) e
-    ∙ over_cons i run (get_or gs i 0) (drop (i + 1) gs)
-    ∙ ap (λ (l : List ℕ). run_over i run l) (sym e)
+  pub run_old : zeros_at (drop i gs) ≤ run.count → run_over (i + 1) run (drop (i + 1) gs) ≡ run_over i run (drop i gs)
+  run_old l = rw (from_place gs i h, add-one i) (over_cons_old i run (get_or gs i 0) (drop (suc i) gs) (rw (from_place gs i h, add-one i) at l))
 
 pub run_end : (gs : List ℕ) (i : ℕ) (run : Run) → length gs ≤ i → run_over i run (drop i gs) ≡ run
 unfolding longest

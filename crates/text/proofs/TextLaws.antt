@@ -2,6 +2,7 @@
 use Prim.Native.Nat.{ℕ, suc, ◌+◌, ◌-◌, ◌*◌, ◌≤◌, ◌<◌}
 use mathlib.Core.Path.{◌≡◌, refl, ap, ◌∙◌}
 use mathlib.Core.Bool.{Bool, true, false}
+use Rattle.std.specs.Prelude.{Some}
 use mathlib.Core.List.{List, [], ◌∷◌, ◌++◌, map, append_assoc}
 use lib.Dec.{ltb, eqb}
 use lib.ListN.{length, get_or, drop, length-append, length-map}
@@ -142,7 +143,7 @@ address_count_lem a rest h = let c = count_short (groups_of a) rest in c ∙ ome
 
 -- an address that was written into a line, before something that may not stand in one, is found there when read
 pub address_found : (before a rest : List ℕ) → length a ≡ 16 → Small a → address_count rest ≡ 0
-    → address_at (before ++ (write_address a ++ rest)) (length before) ≡ record { formed = true; address = a; next = length before + length (write_address a) }
+    → address_at (before ++ (write_address a ++ rest)) (length before) ≡ record { address = Some a; next = length before + length (write_address a) }
 address_found before a rest h s e = parts whole counted
   where
     d : drop (length before) (before ++ (write_address a ++ rest)) ≡ write_address a ++ rest
@@ -154,13 +155,13 @@ address_found before a rest h s e = parts whole counted
     part : address_part (before ++ (write_address a ++ rest)) (length before) ≡ write_address a
     part = unfold address_part in rw (d, address_count_lem a rest e) (take-append_seam (write_address a) rest)
 
-    read : whole_of (write_address a) ≡ record { formed = true; address = a }
+    read : whole_of (write_address a) ≡ Some a
     read = let r = address_read a h s in unfold whole_of in rw (r.0, whole_of, r.1)
 
-    whole : whole_of (address_part (before ++ (write_address a ++ rest)) (length before)) ≡ record { formed = true; address = a }
+    whole : whole_of (address_part (before ++ (write_address a ++ rest)) (length before)) ≡ Some a
     whole = ap whole_of part ∙ read
 
-    parts : whole_of (address_part (before ++ (write_address a ++ rest)) (length before)) ≡ record { formed = true; address = a }
+    parts : whole_of (address_part (before ++ (write_address a ++ rest)) (length before)) ≡ Some a
         → address_count (drop (length before) (before ++ (write_address a ++ rest))) ≡ length (write_address a)
-        → address_at (before ++ (write_address a ++ rest)) (length before) ≡ record { formed = true; address = a; next = length before + length (write_address a) }
-    parts w n = unfold address_at in λ i. record { formed = (w i).formed; address = (w i).address; next = length before + n i }
+        → address_at (before ++ (write_address a ++ rest)) (length before) ≡ record { address = Some a; next = length before + length (write_address a) }
+    parts w n = unfold address_at in λ i. record { address = w i; next = length before + n i }

@@ -3,24 +3,25 @@ use Prim.Native.Nat.{ℕ, zero, suc, ◌+◌, ◌-◌, ◌*◌, ◌^◌, ◌≤�
 use mathlib.Core.Path.{◌≡◌, refl, ap, sym, ◌∙◌}
 use mathlib.Core.Bool.{Bool, true, false, ◌&&◌}
 use mathlib.Core.List.{List, [], ◌∷◌, ◌++◌, append-nil, append_assoc}
+use Rattle.std.specs.Prelude.{Option, Some, None}
 use lib.Dec.{ltb, eqb}
 use lib.ListN.{length, get_or, take, drop, length-drop}
 use lib.Seq.{take-append-add, drop-append-add, take-nil}
 use native.Mathlib.Omega.{arith}
 use native.Mathlib.Nat.{pow-le-pow_right, pow-suc, zero-add}
-use borrow.Author.Tests.{lt-ltb, le-ltb, ltb-true, ne_eqb, eqb-true}
+use borrow.Author.Tests.{lt-ltb, le-ltb, ltb-true, eqb-true}
 use Rattle.octets.specs.Octets.{blank}
 use Rattle.octets.specs.Each.{Under}
 use Rattle.octets.proofs.BoolLaws.{and_false}
 use Rattle.octets.proofs.OctetLaws.{under_cons, drop_blank}
-use Rattle.text.specs.declared.reading.Count.{Count}
-use Rattle.text.specs.declared.reading.Whole.{Whole}
 use Rattle.text.specs.Digits.{digit_in}
 use Rattle.text.specs.Groups.{octets_of}
 use Rattle.text.specs.Written.{written}
 use Rattle.text.specs.AddressText.{are_groups, groups_from, is_side, side_groups, two_colons, gap_of, has_gap, before_gap, after_gap, named, is_address, address_groups, read_address, may_stand, address_count}
 use Rattle.text.specs.Reading.{whole_of, address_part, address_at}
-use Rattle.text.specs.Sides.{count_of, are_sides, sides_of}
+use Rattle.text.specs.Sides.{count_of, are_sides, sides_of, gap_found}
+use Rattle.text.proofs.Computing.{text_compute}
+use Rattle.text.proofs.CountLaws.{count_good}
 use Rattle.text.proofs.DecimalLaws.{both}
 use Rattle.text.proofs.AddressTextLaws.{side_is, side_all}
 use Rattle.text.proofs.LeadingLaws.{leading_few}
@@ -28,30 +29,30 @@ use Rattle.text.proofs.PlaceLaws.{past}
 use Rattle.text.proofs.RunLaws.{rest_whole}
 use Rattle.text.proofs.RoundTrip.{is_plain_lem, is_short, plain_groups, short_groups}
 
-pub whole_good : (text gs : List ℕ) → is_address text ≡ true → gs ≡ address_groups text → record { formed = true; address = octets_of gs } ≡ whole_of text
+pub whole_good : (text gs : List ℕ) → is_address text ≡ true → gs ≡ address_groups text → Some (octets_of gs) ≡ whole_of text
 unfolding whole_of read_address
 whole_good text gs e f = sym (rw (e, whole_of, f))
 
-pub whole_bad : (text : List ℕ) → is_address text ≡ false → record { formed = false; address = blank 16 } ≡ whole_of text
+pub whole_bad : (text : List ℕ) → is_address text ≡ false → None ≡ whole_of text
 unfolding whole_of
 whole_bad text e = sym (rw (e, whole_of))
 
 -- what a count says
-pub count_formed_lem : (text : List ℕ) → (count_of text).formed ≡ is_side text
+pub count_some : (text : List ℕ) (n : ℕ) → count_of text ≡ Some n → (is_side text ≡ true) × (n ≡ length (side_groups text))
 unfolding count_of
-count_formed_lem text = go (is_side text) refl
+count_some text n h = go (is_side text) refl
   where
-    go : (t : Bool) → is_side text ≡ t → (count_of text).formed ≡ is_side text
-    go true e = rw (e, count_of)
-    go false e = rw (e, count_of)
+    go : (t : Bool) → is_side text ≡ t → (is_side text ≡ true) × (n ≡ length (side_groups text))
+    go true e = let k : count_of text ≡ Some (length (side_groups text)) = rw (e, count_of) in (e, cc)
+    go false e = let k : count_of text ≡ None = rw (e, count_of) in let z : ⊥ = cc in absurd z
 
-pub count_length : (text : List ℕ) → is_side text ≡ true → (count_of text).count ≡ length (side_groups text)
+pub count_nothing : (text : List ℕ) → count_of text ≡ None → is_side text ≡ false
 unfolding count_of
-count_length text e = rw (e, count_of)
-
-pub count_zero : (text : List ℕ) → is_side text ≡ false → (count_of text).count ≡ 0
-unfolding count_of
-count_zero text e = rw (e, count_of)
+count_nothing text h = go (is_side text) refl
+  where
+    go : (t : Bool) → is_side text ≡ t → is_side text ≡ false
+    go true e = let k : count_of text ≡ Some (length (side_groups text)) = rw (e, count_of) in let z : ⊥ = cc in absurd z
+    go false e = e
 
 -- groups of at most four digits are below 65,536
 under_from : (n v : ℕ) (xs : List ℕ) → n ≤ 4 → v < 16 ^ n → are_groups n xs ≡ true → Under 65536 (groups_from v xs)
@@ -97,34 +98,30 @@ unfolding side_groups
 long_enough [] h = h
 long_enough (c ∷ cs) h = omega arith
 
-pub full_good : (text : List ℕ) → has_gap text ≡ false → (count_of text).count ≡ 8 → Full text
-full_good text g h = go (is_side text) refl
-  where
-    go : (t : Bool) → is_side text ≡ t → Full text
-    go true e =
-        let l = count_length text e in
-        let n : length (side_groups text) ≡ 8 = omega arith in
-        let s = long_enough text (omega arith) in
-        let a : are_groups 0 text ≡ true = sym (side_is text s) ∙ e in
-        let f = side_all text s in
-        let m : length (groups_from 0 text) ≡ 8 = ap length (sym f) ∙ n in
-        record { good = is_plain_lem text g ∙ rw (a, m); side = e; eight = n; groups = plain_groups text g ∙ sym f }
-    go false e = let z = count_zero text e in let y : ⊥ = omega arith in absurd y
+pub full_good : (text : List ℕ) → has_gap text ≡ false → count_of text ≡ Some 8 → Full text
+full_good text g h =
+    let k = count_some text 8 h in
+    let n : length (side_groups text) ≡ 8 = sym k.1 in
+    let s = long_enough text (omega arith) in
+    let a : are_groups 0 text ≡ true = sym (side_is text s) ∙ k.0 in
+    let f = side_all text s in
+    let m : length (groups_from 0 text) ≡ 8 = ap length (sym f) ∙ n in
+    record { good = is_plain_lem text g ∙ rw (a, m); side = k.0; eight = n; groups = plain_groups text g ∙ sym f }
 
-pub full_bad : (text : List ℕ) → has_gap text ≡ false → ((count_of text).count ≡ 8 → ⊥) → is_address text ≡ false
+pub full_bad : (text : List ℕ) → has_gap text ≡ false → (count_of text ≡ Some 8 → ⊥) → is_address text ≡ false
 full_bad [] g h = is_plain_lem [] g ∙ unfold are_groups in refl
-full_bad (c ∷ cs) g h = go (are_groups 0 (c ∷ cs)) refl
+full_bad (c ∷ cs) g h = go (are_groups 0 (c ∷ cs)) (eqb (length (groups_from 0 (c ∷ cs))) 8) refl refl
   where
-    go : (t : Bool) → are_groups 0 (c ∷ cs) ≡ t → is_address (c ∷ cs) ≡ false
-    go true e =
-        let s = side_is (c ∷ cs) (omega arith) ∙ e in
-        let l = count_length (c ∷ cs) s in
-        let n = ap length (side_all (c ∷ cs) (omega arith)) in
-        is_plain_lem (c ∷ cs) g ∙ rw e (ne_eqb (length (groups_from 0 (c ∷ cs))) 8 (omega arith))
-    go false e = is_plain_lem (c ∷ cs) g ∙ rw e
+    go : (t u : Bool) → are_groups 0 (c ∷ cs) ≡ t → eqb (length (groups_from 0 (c ∷ cs))) 8 ≡ u → is_address (c ∷ cs) ≡ false
+    go true true e f =
+        let n = eqb-true (length (groups_from 0 (c ∷ cs))) 8 f in
+        let k : Some 8 ≡ count_of (c ∷ cs) = count_good (c ∷ cs) 8 (omega arith) e (sym n) in
+        absurd (h (sym k))
+    go true false e f = is_plain_lem (c ∷ cs) g ∙ rw (e, f)
+    go false u e f = is_plain_lem (c ∷ cs) g ∙ rw e
 
 -- two sides
-pub sides_bad : (a b : List ℕ) → are_sides a b ≡ false → record { formed = false; address = blank 16 } ≡ sides_of a b
+pub sides_bad : (a b : List ℕ) → are_sides a b ≡ false → None ≡ sides_of a b
 unfolding sides_of
 sides_bad a b e = sym (rw (e, sides_of))
 
@@ -174,13 +171,13 @@ written_sides a b h =
         ∙ append_assoc a (blank (8 - (length a + length b))) b
 
 pub sides_good : (a b gs : List ℕ) → is_side a ≡ true → is_side b ≡ true → length (side_groups a) + length (side_groups b) < 8
-    → gs ≡ written (written (blank 8) 0 (side_groups a)) (8 - length (side_groups b)) (side_groups b) → record { formed = true; address = octets_of gs } ≡ sides_of a b
+    → gs ≡ written (written (blank 8) 0 (side_groups a)) (8 - length (side_groups b)) (side_groups b) → Some (octets_of gs) ≡ sides_of a b
 sides_good a b gs e f h g =
     let s : are_sides a b ≡ true = unfold are_sides in rw (e, f) (lt-ltb (length (side_groups a) + length (side_groups b)) 8 h) in
     let w = g ∙ written_sides (side_groups a) (side_groups b) (omega arith) in
     good s w
   where
-    good : are_sides a b ≡ true → gs ≡ side_groups a ++ (blank (8 - (length (side_groups a) + length (side_groups b))) ++ side_groups b) → record { formed = true; address = octets_of gs } ≡ sides_of a b
+    good : are_sides a b ≡ true → gs ≡ side_groups a ++ (blank (8 - (length (side_groups a) + length (side_groups b))) ++ side_groups b) → Some (octets_of gs) ≡ sides_of a b
     good s w = unfold sides_of in sym (rw (s, sides_of, w))
 
 pub whole_sides : (text : List ℕ) → has_gap text ≡ true → sides_of (before_gap text) (after_gap text) ≡ whole_of text
@@ -212,12 +209,34 @@ gap_room (c ∷ cs) h = go (two_colons (c ∷ cs)) refl (gap_room cs)
         let r = k (omega arith) in
         omega arith
 
--- what a count says of a side
-pub formed_is : (r : Count) (text : List ℕ) (t : Bool) → r ≡ count_of text → r.formed ≡ t → is_side text ≡ t
-formed_is r text t e h = sym (count_formed_lem text) ∙ ap (λ (c : Count). c.formed) (sym e) ∙ h
+-- what the search for two colons finds
+pub gap_some : (text : List ℕ) (at : ℕ) → gap_found text ≡ Some at → (at ≡ gap_of text) × (at < length text)
+unfolding gap_found has_gap
+gap_some text at h = go (ltb (gap_of text) (length text)) refl
+  where
+    go : (t : Bool) → ltb (gap_of text) (length text) ≡ t → (at ≡ gap_of text) × (at < length text)
+    go true e =
+        let k : gap_found text ≡ Some (gap_of text) = rw (e, gap_found, has_gap) in
+        let l = ltb-true (gap_of text) (length text) e in
+        let f : at ≡ gap_of text = cc in
+        (f, omega arith)
+    go false e = let k : gap_found text ≡ None = rw (e, gap_found, has_gap) in let z : ⊥ = cc in absurd z
 
-pub count_is : (r : Count) (text : List ℕ) → r ≡ count_of text → is_side text ≡ true → r.count ≡ length (side_groups text)
-count_is r text e h = ap (λ (c : Count). c.count) e ∙ count_length text h
+pub gap_nothing : (text : List ℕ) → gap_found text ≡ None → has_gap text ≡ false
+unfolding gap_found
+gap_nothing text h = go (has_gap text) refl
+  where
+    go : (t : Bool) → has_gap text ≡ t → has_gap text ≡ false
+    go true e = let k : gap_found text ≡ Some (gap_of text) = rw (e, gap_found) in let z : ⊥ = cc in absurd z
+    go false e = e
+
+pub found_gap : (text : List ℕ) (at : ℕ) → at ≡ gap_of text → at < length text → Some at ≡ gap_found text
+unfolding gap_found has_gap
+found_gap text at e h = let l = lt-ltb (gap_of text) (length text) (omega arith) in sym (rw (l, gap_found, has_gap, e))
+
+pub found_no_gap : (text : List ℕ) → length text ≤ gap_of text → None ≡ gap_found text
+unfolding gap_found has_gap
+found_no_gap text h = let l = le-ltb (gap_of text) (length text) h in sym (rw (l, gap_found, has_gap))
 
 -- text cut at its two colons, and text without them
 pub whole_parts : (text : List ℕ) (at : ℕ) → at ≡ gap_of text → at < length text → sides_of (take at text) (take (length text - (at + 2)) (drop (at + 2) text)) ≡ whole_of text
@@ -227,29 +246,24 @@ whole_parts text at e h =
     ∙ ap (λ (k : ℕ). sides_of (take k text) (drop (k + 2) text)) e
     ∙ whole_sides text (lt-ltb (gap_of text) (length text) (omega arith))
 
-pub no_gap : (text : List ℕ) (at : ℕ) → at ≡ gap_of text → length text ≤ at → has_gap text ≡ false
-unfolding has_gap
-no_gap text at e h = le-ltb (gap_of text) (length text) (omega arith)
-
 -- the octets of an address lie within the text
 pub end_within : (s : List ℕ) (from next : ℕ) → next ≡ from + address_count (drop from s) → from ≤ length s → next ≤ length s
 end_within s from next e h = let f = leading_few may_stand (drop from s) in let l = length-drop from s in omega arith
 
 -- what is found at a place
-pub found_some : (s : List ℕ) (from next : ℕ) (w : Whole) → next ≡ from + address_count (drop from s) → w ≡ whole_of (take (next - from) (drop from s))
-    → record { formed = w.formed; address = w.address; next = next } ≡ address_at s from
+pub found_some : (s : List ℕ) (from next : ℕ) (w : Option (List ℕ)) → next ≡ from + address_count (drop from s) → w ≡ whole_of (take (next - from) (drop from s))
+    → record { address = w; next = next } ≡ address_at s from
 unfolding address_at address_part
 found_some s from next w e f =
     let k : next - from ≡ address_count (drop from s) = omega arith in
     let g : w ≡ whole_of (take (address_count (drop from s)) (drop from s)) = f ∙ ap (λ (n : ℕ). whole_of (take n (drop from s))) k in
-    λ i. record { formed = (g i).formed; address = (g i).address; next = e i }
+    λ i. record { address = g i; next = e i }
 
-none : record { formed = false; address = blank 16 } ≡ whole_of []
-none = whole_bad [] (full_bad [] (unfold has_gap gap_of in refl) (unfold count_of is_side side_groups in omega arith))
+none : None ≡ whole_of []
+none = whole_bad [] (unfold text_compute in refl)
 
-pub found_none : (s : List ℕ) (from next : ℕ) → next ≡ from + address_count (drop from s) → length s < from
-    → record { formed = false; address = blank 16; next = next } ≡ address_at s from
+pub found_none : (s : List ℕ) (from next : ℕ) → next ≡ from + address_count (drop from s) → length s < from → record { address = None; next = next } ≡ address_at s from
 found_none s from next e h =
     let d : drop from s ≡ [] = past s from (omega arith) in
     let p : take (next - from) (drop from s) ≡ [] = ap (take (next - from)) d ∙ take-nil (next - from) in
-    found_some s from next (record { formed = false; address = blank 16 }) e (none ∙ ap whole_of (sym p))
+    found_some s from next None e (none ∙ ap whole_of (sym p))

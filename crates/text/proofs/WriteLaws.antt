@@ -1,10 +1,11 @@
 -- The text of an address by its run of zero groups. Assumes nothing.
-use Prim.Native.Nat.{ℕ, ◌+◌, ◌≤◌, ◌<◌}
+use Prim.Native.Nat.{ℕ, ◌+◌, ◌-◌, ◌≤◌, ◌<◌}
 use mathlib.Core.Path.{◌≡◌, refl, ap, sym, ◌∙◌}
 use mathlib.Core.Bool.{Bool, true, false}
 use mathlib.Core.List.{List, [], ◌∷◌, ◌++◌}
 use lib.Dec.{eqb}
 use lib.ListN.{length, take, drop, length-drop}
+use lib.Seq.{take_all}
 use native.Mathlib.Omega.{arith}
 use borrow.Author.Tests.{eqb-true, eqb-false}
 use Rattle.text.specs.declared.addresses.Run.{Run}
@@ -41,9 +42,13 @@ short_named : (gs : List ℕ) → 2 ≤ (run_of gs).count → groups_text (take 
 unfolding run_of before_run after_run
 short_named gs h = sym (text_short gs h)
 
-pub address_short : (a gs : List ℕ) (r : Run) → gs ≡ groups_of a → r ≡ run_of gs → 2 ≤ r.count
-    → (r.place + r.count ≤ length gs) × (groups_text (take r.place gs) ++ (58 ∷ 58 ∷ groups_text (drop (r.place + r.count) gs)) ≡ write_address a)
+-- the rest of eight groups, to their end
+pub address_short : (a gs : List ℕ) (r : Run) → gs ≡ groups_of a → r ≡ run_of gs → 2 ≤ r.count → length gs ≡ 8
+    → (r.place + r.count ≤ 8) × (groups_text (take r.place gs) ++ (58 ∷ 58 ∷ groups_text (take (8 - (r.place + r.count)) (drop (r.place + r.count) gs))) ≡ write_address a)
 unfolding write_address
-address_short a gs r e f h =
+address_short a gs r e f h n =
     let k : 2 ≤ (run_of gs).count = rw f at h in
-    (rw f (run_within gs (omega arith)), rw f (short_named gs k ∙ ap short_text e))
+    let w : r.place + r.count ≤ length gs = rw f (run_within gs (omega arith)) in
+    let l = length-drop (r.place + r.count) gs in
+    let t : take (8 - (r.place + r.count)) (drop (r.place + r.count) gs) ≡ drop (r.place + r.count) gs = take_all _ _ (omega arith) in
+    (omega arith, rw t (rw f (short_named gs k ∙ ap short_text e)))

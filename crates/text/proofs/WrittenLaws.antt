@@ -1,9 +1,9 @@
 -- Laws of octets put over others.
-use Prim.Native.Nat.{ℕ, ◌+◌, ◌≤◌, ◌<◌}
+use Prim.Native.Nat.{ℕ, suc, ◌+◌, ◌≤◌, ◌<◌}
 use mathlib.Core.Path.{◌≡◌, refl, ap, sym, ◌∙◌}
 use mathlib.Core.List.{List, [], ◌∷◌, ◌++◌, append_assoc}
 use lib.ListN.{length, take, drop, set, length-set, length-append, length-drop, take-append-drop}
-use lib.Seq.{set_split, take_at, take-append_seam, drop-append-add, drop-drop, length-take-le}
+use lib.Seq.{set_split, take-take, take-append-le, drop_at, take_at, take-append_seam, drop-append-add, drop-drop, length-take-le}
 use native.Mathlib.Omega.{arith}
 use native.Mathlib.Nat.{add-zero, zero-add}
 use native.Mathlib.Numerals.{add-one}
@@ -25,6 +25,18 @@ written_length d at xs h =
     let e = length-take-le at d (omega arith) in
     let f = length-drop (at + length xs) d in
     rw (length-append (take at d) (xs ++ drop (at + length xs) d), length-append xs (drop (at + length xs) d)) (omega arith)
+
+-- an octet put before octets just put
+pub written_before : (d : List ℕ) (at x : ℕ) (xs : List ℕ) → at + 1 + length xs ≤ length d → set (written d (at + 1) xs) at x ≡ written d at (x ∷ xs)
+unfolding written
+written_before d at x xs h =
+    let w : List ℕ = take (at + 1) d ++ (xs ++ drop (at + 1 + length xs) d) in
+    let l = length-take-le (at + 1) d (omega arith) in
+    let m = length-append (take (at + 1) d) (xs ++ drop (at + 1 + length xs) d) in
+    let k : at + 1 + length xs ≡ at + suc (length xs) = omega arith in
+    let t : take at w ≡ take at d = take-append-le at (take (at + 1) d) (xs ++ drop (at + 1 + length xs) d) (omega arith) ∙ take-take at (at + 1) d (omega arith) in
+    let r : drop (suc at) w ≡ xs ++ drop (at + 1 + length xs) d = drop_at (take (at + 1) d) (xs ++ drop (at + 1 + length xs) d) (suc at) (omega arith) in
+    set_split w at x (omega arith) ∙ rw (t, r, k)
 
 -- octets put after octets just put
 pub written_more : (d : List ℕ) (at : ℕ) (xs ys : List ℕ) → at + length xs ≤ length d → written (written d at xs) (at + length xs) ys ≡ written d at (xs ++ ys)

@@ -1,5 +1,5 @@
 -- An address as eight numbers below 65,536, its groups (RFC 4291, section 2.2), and the run of zero groups that is shortened (RFC 5952, section 4.2).
-use Rattle.std.specs.Prelude.{ℕ, suc, ◌+◌, ◌*◌, ◌/◌, ◌%◌, max, true, false, List, [], ◌∷◌, ltb, eqb, take, drop}
+use Rattle.std.specs.Prelude.{ℕ, suc, ◌+◌, ◌*◌, ◌/◌, ◌%◌, max, true, false, List, [], ◌∷◌, eqb, take, drop}
 use Rattle.text.specs.declared.addresses.Run.{Run}
 
 -- the groups of octets: each two of them one number, the first the higher
@@ -39,7 +39,3 @@ after_run gs = drop (place_of (longest gs) gs + longest gs) gs
 -- the run to shorten: its place and its length
 unfoldable pub run_of : List ℕ → Run
 run_of gs = record { place = place_of (longest gs) gs; count = longest gs }
-
--- the longer of a run and one of n groups at place i; the first of two equal ones
-unfoldable pub better : Run → ℕ → ℕ → Run
-better run i n = elim (ltb run.count n) [ true ↦ record { place = i; count = n } | false ↦ run ]

@@ -1,7 +1,6 @@
 pub mod Written
 pub mod Digits
 pub mod Decimal
-pub mod Figures
 pub mod Answers
 pub mod Groups
 pub mod AddressText

@@ -1,40 +1,24 @@
 // Addresses read from text.
-ghost use Rattle.std.specs.Prelude.{◌≡◌, false, ◌+◌, ◌/◌, ◌%◌, ◌^◌, ◌≤◌, ◌<◌, length, drop};
-ghost use Rattle.octets.specs.Octets.{blank};
+ghost use Rattle.std.specs.Prelude.{◌≡◌, false, ◌+◌, ◌^◌, ◌≤◌, ◌<◌, length};
 ghost use Rattle.octets.specs.Each.{Under};
 ghost use Rattle.text.specs.Written.{written};
 ghost use Rattle.text.specs.Digits.{digit_in};
 ghost use Rattle.text.specs.Groups.{octets_of};
-ghost use Rattle.text.specs.AddressText.{side_groups, two_colons, gap_of, has_gap, may_stand, address_count};
+ghost use Rattle.text.specs.AddressText.{side_groups, has_gap, may_stand};
 ghost use Rattle.text.specs.Reading.{whole_of, address_at};
-ghost use Rattle.text.specs.Sides.{step_of, count_of, sides_of};
+ghost use Rattle.text.specs.Sides.{step_of, count_of, sides_of, gap_found};
 
 // How far groups have been passed: the digits of the group at hand, and the groups that have ended.
-#[derive(Drop)]
+#[derive(Clone, Copy, Debug, PartialEq, Eq)]
 pub struct Tally {
     pub digits: usize,
     pub groups: usize,
 }
 
-// Whether text is groups, and how many.
-#[derive(Drop)]
-pub struct Count {
-    pub formed: bool,
-    pub count: usize,
-}
-
-// Whether text is an address as a whole, and its octets, zeros where it is none.
-#[derive(Drop)]
-pub struct Whole {
-    pub formed: bool,
-    pub address: [u8; 16],
-}
-
-// Whether an address stands at a place, its octets, zeros where it is none, and the place after the octets that may stand in one.
-#[derive(Drop)]
+// The address that stands at a place, and the place after the octets that may stand in one.
+#[derive(Clone, Copy, Debug, PartialEq, Eq)]
 pub struct Found {
-    pub formed: bool,
-    pub address: [u8; 16],
+    pub address: Option<[u8; 16]>,
     pub next: usize,
 }
 
@@ -42,112 +26,73 @@ pub struct Found {
 pub fn read_address(s: &[u8], from: usize) -> Found
     ensures { result ≡ address_at s.now from }
 {
-    let next = address_end(s, from);
+    let next = crate::inside::pass(s, from, may_stand);
     if s.len() < from {
         return Found {
-            formed: false,
-            address: [0u8; 16],
+            address: None,
             next,
         };
     }
-    let whole = read_whole(&s[from..next]);
-    let address = whole.address;
     Found {
-        formed: whole.formed,
-        address,
+        address: read_whole(&s[from..next]),
         next,
     }
 }
 
 // Reads text as an address.
-pub fn read_whole(text: &[u8]) -> Whole
+pub fn read_whole(text: &[u8]) -> Option<[u8; 16]>
     ensures { result ≡ whole_of text.now }
 {
-    let at = gap(text);
-    if at < text.len() {
-        let after = at + 2;
-        return read_sides(&text[..at], &text[after..]);
-    }
-    read_full(text)
-}
-
-// No address.
-fn nothing() -> Whole
-    ensures { result ≡ record { formed = false; address = blank 16 } }
-{
-    Whole {
-        formed: false,
-        address: [0u8; 16],
+    match gap(text) {
+        Some(at) => read_sides(&text[..at], &text[at + 2..]),
+        None => read_full(text),
     }
 }
 
 // Reads text without two colons side by side.
-fn read_full(text: &[u8]) -> Whole
+fn read_full(text: &[u8]) -> Option<[u8; 16]>
     requires { has_gap text.now ≡ false }
     ensures { result ≡ whole_of text.now }
 {
-    let c = count_groups(text);
-    if c.count == 8 {
-        let mut groups = [0u16; 8];
-        put_groups(text, &mut groups, 0);
-        let address = octets_of(groups);
-        return Whole {
-            formed: true,
-            address,
-        };
+    if count_groups(text)? != 8 {
+        return None;
     }
-    nothing()
+    let mut groups = [0u16; 8];
+    put_groups(text, &mut groups, 0);
+    Some(octets_of(groups))
 }
 
 // Reads the text before two colons and the text after them.
-fn read_sides(front: &[u8], back: &[u8]) -> Whole
+fn read_sides(front: &[u8], back: &[u8]) -> Option<[u8; 16]>
     ensures { result ≡ sides_of front.now back.now }
 {
-    let a = count_groups(front);
-    let b = count_groups(back);
-    if !a.formed {
-        return nothing();
-    }
-    if !b.formed {
-        return nothing();
-    }
-    let m = a.count;
-    let n = b.count;
-    if 7 < m {
-        return nothing();
-    }
-    if 7 - m < n {
-        return nothing();
+    let m = count_groups(front)?;
+    let n = count_groups(back)?;
+    if 7 < m.saturating_add(n) {
+        return None;
     }
     let mut groups = [0u16; 8];
     put_groups(front, &mut groups, 0);
     put_groups(back, &mut groups, 8 - n);
-    let address = octets_of(groups);
-    Whole {
-        formed: true,
-        address,
-    }
+    Some(octets_of(groups))
 }
 
-// The octets from 48 to 102 that may stand in an address, a bit each.
-const STANDING: u64 = 35465847073802239;
+// The octets from '0' to 'f' that may stand in an address, a bit each.
+const STANDING: u64 = 0x7e_0000_007e_07ff;
 
 // Whether an octet may stand in an address: a hexadecimal digit or a colon.
 // By one test, since digits, letters and colons come in no order that a branch could foresee.
 fn may_stand(c: u8) -> bool
     ensures { result ≡ may_stand c }
 {
-    if c < 48 {
-        return false;
+    match c {
+        b'0'..=b'f' => (STANDING >> u32::from(c - b'0')) % 2 == 1,
+        _ => false,
     }
-    if 102 < c {
-        return false;
-    }
-    let i = c as u32 - 48;
-    (STANDING >> i) % 2 == 1
 }
 
 // The hexadecimal digit that an octet writes that is no colon; 16 where it writes none.
+// A number and no `Option`, since it is made without a branch.
 fn hexadecimal(c: u8) -> u16
     requires { c ≡ 58 → ⊥ }
     ensures { (result ≡ digit_in c) × (result ≤ 16) }
@@ -155,7 +100,7 @@ fn hexadecimal(c: u8) -> u16
     if !may_stand(c) {
         return 16;
     }
-    let x = c as u16;
+    let x = u16::from(c);
     x % 16 + 9 * (x / 64)
 }
 
@@ -163,80 +108,46 @@ fn hexadecimal(c: u8) -> u16
 pub fn digit_in(c: u8) -> u16
     ensures { (result ≡ digit_in c) × (result ≤ 16) }
 {
-    if c == 58 {
-        return 16;
-    }
-    hexadecimal(c)
+    if c == b':' { 16 } else { hexadecimal(c) }
 }
 
-// The place after the hexadecimal digits and colons that stand from a place on.
-fn address_end(s: &[u8], from: usize) -> usize
-    ensures { result ≡ from + address_count (drop from s.now) }
+// Two colons as one number.
+const COLONS: u16 = 14906;
+
+// How many octets stand before the first two colons.
+fn gap(text: &[u8]) -> Option<usize>
+    ensures { result ≡ gap_found text.now }
 {
-    let n = s.len();
-    let mut i = from;
-    while i < n {
-        if !may_stand(s[i]) {
-            return i;
+    for end in 1..text.len() {
+        if u16::from_be_bytes([text[end - 1], text[end]]) == COLONS {
+            return Some(end - 1);
         }
-        i += 1;
     }
-    i
+    None
 }
 
-// How many octets stand before the first two colons; all of them where there are none.
-fn gap(text: &[u8]) -> usize
-    ensures { result ≡ gap_of text.now }
-{
-    let n = text.len();
-    let mut i: usize = 0;
-    while i < n {
-        if is_gap(text, i) {
-            return i;
-        }
-        i += 1;
-    }
-    i
-}
-
-// Whether two colons stand at a place.
-fn is_gap(text: &[u8], i: usize) -> bool
-    requires { i < length text.now }
-    ensures { result ≡ two_colons (drop i text.now) }
-{
-    let j = i + 1;
-    if j == text.len() {
-        return false;
-    }
-    crate::inside::group(text[i], text[j]) == 14906
-}
-
-// One octet more of text that is groups; five digits where the octet may not stand there.
-fn step(t: Tally, c: u8) -> Tally
+// One octet more of text that is groups, unless it may not stand there.
+fn step(t: Tally, c: u8) -> Option<Tally>
     requires { (t.digits ≤ 4) × (t.groups + 1 < 2 ^ 64) }
     ensures { result ≡ step_of t c }
 {
-    let digits = t.digits;
-    let groups = t.groups;
-    if c == 58 {
+    let Tally { digits, groups } = t;
+    if c == b':' {
         if digits == 0 {
-            return Tally { digits: 5, groups };
+            return None;
         }
-        return Tally {
+        return Some(Tally {
             digits: 0,
             groups: groups + 1,
-        };
+        });
     }
-    if hexadecimal(c) == 16 {
-        return Tally { digits: 5, groups };
+    if digits == 4 || hexadecimal(c) == 16 {
+        return None;
     }
-    if digits == 4 {
-        return Tally { digits: 5, groups };
-    }
-    Tally {
+    Some(Tally {
         digits: digits + 1,
         groups,
-    }
+    })
 }
 
 // Writes the groups that text names into a list of numbers from a place on.
@@ -245,98 +156,52 @@ fn put_groups(text: &[u8], out: &mut [u16], at: usize)
     requires text_in_bounds { at + length (side_groups text.now) ≤ length out.old }
     ensures { out.new ≡ written out.old at (side_groups text.now) }
 {
-    let n = text.len();
-    if n == 0 {
+    if text.is_empty() {
         return;
     }
     let mut next = at;
     let mut v: u16 = 0;
-    let mut i: usize = 0;
-    while i < n {
-        if text[i] == 58 {
+    for c in text {
+        if *c == b':' {
             out[next] = v;
             next += 1;
             v = 0;
         } else {
-            v = v * 16 + hexadecimal(text[i]);
+            v = v * 16 + hexadecimal(*c);
         }
-        i += 1;
     }
     out[next] = v;
 }
 
-// Whether text is groups, none where it is empty, and how many.
-fn count_groups(text: &[u8]) -> Count
+// How many groups text is, none where it is empty; nothing where it is no groups.
+fn count_groups(text: &[u8]) -> Option<usize>
     ensures { result ≡ count_of text.now }
 {
-    let n = text.len();
-    if n == 0 {
-        return Count {
-            formed: true,
-            count: 0,
-        };
+    if text.is_empty() {
+        return Some(0);
     }
     let mut t = Tally {
         digits: 0,
         groups: 0,
     };
-    let mut i: usize = 0;
-    while i < n {
-        t = step(t, text[i]);
-        if 4 < t.digits {
-            return Count {
-                formed: false,
-                count: 0,
-            };
-        }
-        i += 1;
+    for c in text {
+        t = step(t, *c)?;
     }
     if t.digits == 0 {
-        return Count {
-            formed: false,
-            count: 0,
-        };
+        return None;
     }
-    Count {
-        formed: true,
-        count: t.groups + 1,
-    }
-}
-
-// The higher octet of a group.
-fn high(g: u16) -> u8
-    ensures { result ≡ g / 256 }
-{
-    (g / 256) as u8
-}
-
-// The lower octet of a group.
-fn low(g: u16) -> u8
-    ensures { result ≡ g % 256 }
-{
-    (g % 256) as u8
+    Some(t.groups + 1)
 }
 
 // The octets of eight groups.
 fn octets_of(g: [u16; 8]) -> [u8; 16]
     ensures { result ≡ octets_of g }
 {
-    [
-        high(g[0]),
-        low(g[0]),
-        high(g[1]),
-        low(g[1]),
-        high(g[2]),
-        low(g[2]),
-        high(g[3]),
-        low(g[3]),
-        high(g[4]),
-        low(g[4]),
-        high(g[5]),
-        low(g[5]),
-        high(g[6]),
-        low(g[6]),
-        high(g[7]),
-        low(g[7]),
-    ]
+    let mut octets = [0u8; 16];
+    for i in 0..8 {
+        let two = g[i].to_be_bytes();
+        octets[2 * i] = two[0];
+        octets[2 * i + 1] = two[1];
+    }
+    octets
 }

@@ -1,24 +1,23 @@
-use Prim.Native.Nat.{◌+◌}
-use mathlib.Core.Path.{refl, ap, sym, ◌∙◌}
+use mathlib.Core.Path.{◌≡◌, ap, sym, ◌∙◌}
 use lib.ListN.{drop}
 use native.Mathlib.Omega.{arith}
-use Rattle.text.specs.declared.addresses.Run.{Run}
-use Rattle.text.specs.Groups.{better}
-use Rattle.text.proofs.RunLaws.{run_over, run_start, run_turn, run_end}
+use Rattle.text.specs.Groups.{zeros_at}
+use Rattle.text.proofs.RunLaws.{zeros_while, run_start, run_new, run_old, run_end, rest_whole}
+use Rattle.text.proofs.inside.longest_run.Goals.{then-run-count, else-run-count}
 use Rattle.text.proofs.inside.longest_run.Goals as goal
 
-pub loop-i-init : goal.loop-i-init
-loop-i-init c = (omega arith, refl, refl)
-
-pub loop-i-preserved : goal.loop-i-preserved
-loop-i-preserved c =
-    let l = c.loop-i in
+pub loop-place-preserved : goal.loop-place-preserved
+loop-place-preserved c =
+    let l = c.loop-place in
     let g = c.args.groups.now in
-    let e = c.better_run-run.ensures ∙ ap (better l.run l.i) c.zeros_at.ensures in
-    (omega arith, omega arith, ap (λ (r : Run). run_over (l.i + 1) r (drop (l.i + 1) g)) e ∙ run_turn g l.i l.run (omega arith) ∙ l.invariant.2)
+    let e : c.zeros_at-count.result ≡ zeros_at (drop c.loop-place.place c.args.groups.now) = c.zeros_at-count.ensures ∙ zeros_while _ ∙ ap zeros_at (rest_whole g l.place) in
+    elim c.if-run-count.branch [
+      | then-run-count w ↦ rw (w.run-is, e) (run_new g l.place l.run (omega arith) (omega arith) ∙ l.invariant)
+      | else-run-count w ↦ rw w.run-is (run_old g l.place l.run (omega arith) (omega arith) ∙ l.invariant)
+    ]
 
 pub returns : goal.returns
 returns c =
-    let l = c.loop-i in
+    let l = c.loop-place in
     let g = c.args.groups.now in
-    sym (run_end g l.i l.run (omega arith)) ∙ l.invariant.2 ∙ run_start g
+    sym (run_end g l.place l.run (omega arith)) ∙ l.invariant ∙ run_start g

@@ -11,5 +11,5 @@ returns-then-c-eq58 c = (sym (ap digit_in c.if-c-eq58.true), omega arith)
 pub hexadecimal-requires : goal.hexadecimal-requires
 hexadecimal-requires c = c.if-c-eq58.false
 
-pub returns : goal.returns
-returns c = c.hexadecimal.ensures
+pub returns-else-c-eq58 : goal.returns-else-c-eq58
+returns-else-c-eq58 c = c.hexadecimal.ensures

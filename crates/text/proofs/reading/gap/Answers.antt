@@ -1,16 +1,29 @@
-use mathlib.Core.Path.{refl, sym, ◌∙◌}
+use Prim.Native.Nat.{◌+◌, ◌-◌}
+use mathlib.Core.Path.{◌≡◌, sym, ◌∙◌}
 use native.Mathlib.Omega.{arith}
-use Rattle.text.proofs.ReadLaws.{gap_turn, gap_stop, gap_end}
+use borrow.Author.Tests.{eq-eqb, ne_eqb}
+use Rattle.text.proofs.ReadLaws.{gap_turn, gap_stop, gap_all, two_word}
+use Rattle.text.proofs.WholeLaws.{found_gap, found_no_gap}
 use Rattle.text.proofs.reading.gap.Goals as goal
 
-pub loop-i-init : goal.loop-i-init
-loop-i-init c = (omega arith, refl, omega arith)
+pub returns-then-from_be_bytes-eq-COLONS : goal.returns-then-from_be_bytes-eq-COLONS
+returns-then-from_be_bytes-eq-COLONS c =
+    let s = c.args.text.now in
+    let end = c.loop-end.end in
+    let i = end - 1 in
+    let w = two_word s i end c.from_be_bytes.result (omega arith) (c.type_inv.text i).fits (c.type_inv.text end).fits c.from_be_bytes.ensures in
+    let k = gap_stop s i (omega arith) (sym w ∙ eq-eqb c.from_be_bytes.result 14906 c.if-from_be_bytes-eq-COLONS.true) in
+    found_gap s i (omega (arith, c.loop-end.invariant)) (omega arith)
 
-pub returns-then-is_gap : goal.returns-then-is_gap
-returns-then-is_gap c = let l = c.loop-i in let t = c.args.text.now in omega (arith, gap_stop t l.i (omega arith) (sym c.is_gap.ensures ∙ c.if-is_gap.true))
-
-pub loop-i-preserved : goal.loop-i-preserved
-loop-i-preserved c = let l = c.loop-i in let t = c.args.text.now in let e = gap_turn t l.i (omega arith) (sym c.is_gap.ensures ∙ c.if-is_gap.false) in (omega arith, omega arith, omega arith)
+pub loop-end-preserved : goal.loop-end-preserved
+loop-end-preserved c =
+    let s = c.args.text.now in
+    let end = c.loop-end.end in
+    let i = end - 1 in
+    let w = two_word s i end c.from_be_bytes.result (omega arith) (c.type_inv.text i).fits (c.type_inv.text end).fits c.from_be_bytes.ensures in
+    let k = gap_turn s i (omega arith) (sym w ∙ ne_eqb c.from_be_bytes.result 14906 c.if-from_be_bytes-eq-COLONS.false) in
+    let e : c.loop-end.end + 1 - 1 ≡ c.loop-end.end - 1 + 1 = omega arith in
+    rw e (omega (arith, c.loop-end.invariant))
 
 pub returns : goal.returns
-returns c = let l = c.loop-i in let t = c.args.text.now in omega (arith, gap_end t l.i (omega arith))
+returns c = found_no_gap c.args.text.now (gap_all c.args.text.now c.loop-end.end (omega arith) (omega arith) c.loop-end.invariant)

@@ -12,4 +12,4 @@ returns-then-not-may_stand c =
 pub returns : goal.returns
 returns c =
     let e = digit_some c.args.c c.requires (sym c.may_stand.ensures ∙ c.if-not-may_stand.false) in
-    (sym e, omega (arith, e, digit_most c.args.c))
+    rw c.from-x.ensures (sym e, omega (arith, e, digit_most c.args.c))
