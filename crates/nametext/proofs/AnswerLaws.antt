@@ -1,6 +1,6 @@
 -- Laws of what write_name answers.
 use Prim.Native.Nat.{ℕ, ◌≤◌}
-use mathlib.Core.Path.{◌≡◌, ap, sym, ◌∙◌}
+use mathlib.Core.Path.{◌≡◌, refl, ap, sym, ◌∙◌}
 use mathlib.Core.Bool.{true, false}
 use mathlib.Core.List.{List}
 use lib.ListN.{length, take}
@@ -10,7 +10,7 @@ use Rattle.labels.specs.Scan.{well_formed}
 use Rattle.names.specs.Standard.{standard_of}
 use Rattle.names.specs.Name.{held_of}
 use Rattle.names.specs.declared.Name.{Name}
-use Rattle.names.proofs.NameLaws.{held_some, held_none, held_part, standard_short}
+use Rattle.names.proofs.NameLaws.{held_part, standard_short}
 use Rattle.names.proofs.RoundLaws.{standard_formed}
 use Rattle.names.proofs.StandardSmall.{standard_small}
 use Rattle.text.specs.Answers.{room_number, text_answer, text_out}
@@ -34,20 +34,15 @@ module _ (name : List ℕ) (room : ℕ) where
   pub written_out : (t : List ℕ) → well_formed name ≡ true → t ≡ name_text name → text_out t room ≡ write_name_out name room
   written_out t w e = ap (λ (s : List ℕ). text_out s room) e ∙ ap (λ (k : ℕ). out_by k (name_text name) room) (sym (number_formed w))
 
--- a name held by value, some octets of it
+-- a well-formed name held by value: its octets in standard form
 pub record Held (name part : List ℕ) : Type 0 where
-  pub formed : well_formed name ≡ true
   pub is : part ≡ standard_of name
   pub standard : well_formed part ≡ true
   pub short : length part ≤ 255
   pub text : length (text_of part) ≤ 1004
 
-pub held_text : (name : List ℕ) (h : Name) (n : ℕ) → Small name → h ≡ held_of name → n ≡ h.length → (n ≡ 0 → ⊥) → Held name (take n h.octets)
-held_text name h n s e k z =
-    let w = held_some name (λ q. z (k ∙ ap (λ (m : Name). m.length) e ∙ q)) in
-    let p = held_part name h n e k w in
+pub held_text : (name : List ℕ) (h : Name) → Small name → well_formed name ≡ true → h ≡ held_of name → Held name (take h.length h.octets)
+held_text name h s w e =
+    let p = held_part name h h.length e refl w in
     let f = standard_formed name s w in
-    record { formed = w; is = p; standard = ap well_formed p ∙ f; short = rw p (standard_short name s w); text = rw p (text_short (standard_of name) (standard_small name s) f) }
-
-pub held_nothing : (name : List ℕ) (h : Name) (n : ℕ) → Small name → h ≡ held_of name → n ≡ h.length → n ≡ 0 → well_formed name ≡ false
-held_nothing name h n s e k z = held_none name s (sym (k ∙ ap (λ (m : Name). m.length) e) ∙ z)
+    record { is = p; standard = ap well_formed p ∙ f; short = rw p (standard_short name s w); text = rw p (text_short (standard_of name) (standard_small name s) f) }

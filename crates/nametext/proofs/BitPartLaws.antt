@@ -16,9 +16,8 @@ use Rattle.labels.specs.Labels.{first_of}
 use Rattle.labels.proofs.LabelLaws.{first_at}
 use Rattle.text.specs.Digits.{digit_in, is_digit, is_hex, leading}
 use Rattle.text.specs.Decimal.{digit_count, decimal_of, is_decimal, decimal_at}
-use Rattle.text.specs.Figures.{figure_of}
 use Rattle.text.specs.declared.numbers.Decimal.{Decimal}
-use Rattle.text.proofs.DecimalLaws.{between_is, figure_in, figure_out, Passed, passed_turn, passed_stop, stop_other, stop_end}
+use Rattle.text.proofs.DecimalLaws.{Passed, passed_turn, passed_stop, stop_other, stop_end}
 use Rattle.text.proofs.PlaceLaws.{past, from_place}
 use Rattle.nametext.specs.Writing.{digits_for}
 use Rattle.nametext.specs.Reading.{paired, digits_in, past_digits, is_counted, count_text, count_in, count_formed, end_in, bit_octets, rest_clear, bits_formed}
@@ -366,16 +365,14 @@ module _ (p : List ℕ) (from cap i : ℕ) (v : Quarters) (t : Passed p from cap
   pub quarter_turn : (r : Quarters) (x : ℕ) → i < length p → is_digit (get_or p i 0) ≡ true → x ≡ get_or p i 0 - 48 → Quartered ((4 * v.whole + v.rest) * 10 + x) cap r
       → Passed p from cap (i + 1) (4 * r.whole + r.rest)
   quarter_turn r x h k e q =
-      let f = figure_in (get_or p i 0) k in
-      let b = between_is 48 57 (get_or p i 0) k in
-      let g : 4 * r.whole + r.rest ≡ min ((4 * v.whole + v.rest) * 10 + figure_of (get_or p i 0)) cap = q.is ∙ ap (λ (y : ℕ). min ((4 * v.whole + v.rest) * 10 + y) cap) (e ∙ sym f) in
-      rw g (passed_turn p from cap i (4 * v.whole + v.rest) t h (omega (arith, b.1)))
+      let g : 4 * r.whole + r.rest ≡ min ((4 * v.whole + v.rest) * 10 + (get_or p i 0 - 48)) cap = q.is ∙ ap (λ (y : ℕ). min ((4 * v.whole + v.rest) * 10 + y) cap) e in
+      rw g (passed_turn p from cap i (4 * v.whole + v.rest) t h k)
 
   quarter_done : v.rest < 4 → digit_count (drop i p) ≡ 0 → Quartered (decimal_of (drop from p)) cap v
   quarter_done h k = let s = (passed_stop p from cap i (4 * v.whole + v.rest) t k).1 in record { is = omega arith; rest = h }
 
   pub quarter_stop : v.rest < 4 → i < length p → is_digit (get_or p i 0) ≡ false → Quartered (decimal_of (drop from p)) cap v
-  quarter_stop h l k = let f = figure_out (get_or p i 0) k in quarter_done h (stop_other p i l (omega arith))
+  quarter_stop h l k = quarter_done h (stop_other p i l k)
 
   pub quarter_end : v.rest < 4 → length p ≤ i → Quartered (decimal_of (drop from p)) cap v
   quarter_end h l = quarter_done h (stop_end p i l)

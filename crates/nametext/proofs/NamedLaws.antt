@@ -1,25 +1,26 @@
 -- The whole name, written label by label, and what is read from a place on.
-use Prim.Native.Nat.{ℕ, zero, suc, ◌+◌, ◌-◌, ◌≤◌, ◌<◌}
+use Prim.Native.Nat.{ℕ, suc, ◌+◌, ◌-◌, ◌≤◌, ◌<◌}
 use mathlib.Core.Path.{◌≡◌, refl, ap, ◌∙◌, sym}
-use mathlib.Core.Bool.{false}
 use mathlib.Core.List.{List, [], ◌∷◌, ◌++◌, map}
-use lib.Dec.{eqb}
 use lib.ListN.{length, take, drop, length-drop, length-append, take-append-drop}
-use lib.Seq.{length-take-le, append_snoc}
+use lib.Seq.{length-take-le, append_snoc, take-nil}
 use native.Mathlib.Omega.{arith}
-use borrow.Author.Tests.{ne_eqb}
 use Rattle.octets.specs.Octets.{blank, same_by}
-use Rattle.octets.proofs.OctetLaws.{length_blank, nil_of_length}
+use Rattle.octets.proofs.OctetLaws.{length_blank}
 use Rattle.bits.specs.Packing.{Clean}
 use Rattle.labels.specs.Labels.{Label}
 use Rattle.names.specs.Standard.{units, bit_label, encode_from, encode}
+use Rattle.std.specs.Prelude.{Result, Err}
+use Rattle.octets.specs.declared.Refusal.{Refusal}
+use Rattle.octets.specs.declared.Refusal.TheVariants.{Form}
+use Rattle.nametext.proofs.NumberLaws.{told_refused}
 use Rattle.names.specs.Name.{name_of}
 use Rattle.names.specs.declared.Name.{Name}
 use Rattle.names.specs.declared.Place.{Place}
 use Rattle.text.specs.Digits.{leading}
 use Rattle.text.proofs.PlaceLaws.{past}
 use Rattle.nametext.specs.Characters.{may_name}
-use Rattle.nametext.specs.Reading.{label_in, parts_of, labels_in, name_read, text_number, name_part, name_held, name_at}
+use Rattle.nametext.specs.Reading.{label_in, parts_of, labels_in, name_read, text_number, name_part, name_told, name_at}
 use Rattle.nametext.specs.Places.{rest_of, encode_rest, Standing, Moved}
 use Rattle.text.proofs.LeadingLaws.{leading_few}
 use Rattle.nametext.proofs.DotLaws.{parts_whole, alone, number_empty, parts_end, number_zero}
@@ -86,35 +87,18 @@ root_written text out n h e =
 
 -- what is read from a place on
 module _ (s : List ℕ) (from next : ℕ) (e : next ≡ from + leading may_name (drop from s)) where
-  part_is : take (next - from) (drop from s) ≡ name_part s from
-  unfolding name_part
-  part_is = let d : next - from ≡ leading may_name (drop from s) = omega arith in ap (λ (n : ℕ). take n (drop from s)) d
+  pub named_at : (name : Result Name Refusal) → name ≡ name_told (take (next - from) (drop from s)) → record { name = name; next = next } ≡ name_at s from
+  unfolding name_at name_part
+  named_at name n =
+      let d : next - from ≡ leading may_name (drop from s) = omega arith in
+      let m : name ≡ name_told (take (leading may_name (drop from s)) (drop from s)) = n ∙ ap (λ (k : ℕ). name_told (take k (drop from s))) d in
+      λ i. record { name = m i; next = e i }
 
-  pub name_refused : (k : ℕ) (name : Name) → k ≡ text_number (take (next - from) (drop from s)) → (k ≡ 0 → ⊥) → name ≡ name_of [] → record { number = k; name = name; next = next } ≡ name_at s from
-  unfolding name_at name_held
-  name_refused k name n z m =
-      let q : k ≡ text_number (name_part s from) = n ∙ ap text_number part_is in
-      let f : eqb (text_number (name_part s from)) 0 ≡ false = ne_eqb (text_number (name_part s from)) 0 (λ y. z (q ∙ y)) in
-      rw (name_held, f, q, e, m)
-
-  pub name_read_lem : (k : ℕ) (name : Name) → k ≡ text_number (take (next - from) (drop from s)) → k ≡ 0 → name ≡ name_of (name_read (take (next - from) (drop from s)))
-      → record { number = 0; name = name; next = next } ≡ name_at s from
-  unfolding name_at name_held
-  name_read_lem k name n z m =
-      let q : text_number (name_part s from) ≡ 0 = sym (n ∙ ap text_number part_is) ∙ z in
-      let g : name ≡ name_of (name_read (name_part s from)) = m ∙ ap (λ (xs : List ℕ). name_of (name_read xs)) part_is in
-      rw (name_held, q, e, g)
-
--- a place after the end
-pub name_beyond : (s : List ℕ) (from next : ℕ) (name : Name) → length s < from → next ≡ from + leading may_name (drop from s) → name ≡ name_of [] → record { number = 20; name = name; next = next } ≡ name_at s from
-name_beyond s from next name h e m =
-    let d : take (next - from) (drop from s) ≡ [] = nil_of_length (take (next - from) (drop from s)) (short (next - from) (drop from s) (ap length (past s from (omega arith)))) in
-    name_refused s from next e 20 name (number_empty (take (next - from) (drop from s)) (ap length d)) (λ z. omega arith) m
-  where
-    short : (n : ℕ) (xs : List ℕ) → length xs ≡ 0 → length (take n xs) ≡ 0
-    short zero xs k = refl
-    short (suc n) [] k = refl
-    short (suc n) (x ∷ xs) k = let z : ⊥ = omega arith in absurd z
+  -- a place after the end
+  pub name_beyond : length s < from → record { name = Err Form; next = next } ≡ name_at s from
+  name_beyond h =
+      let d : take (next - from) (drop from s) ≡ [] = ap (take (next - from)) (past s from (omega arith)) ∙ take-nil (next - from) in
+      named_at (Err Form) (sym (ap name_told d ∙ told_refused [] Form (sym (number_empty [] refl))))
 
 -- the value that holds a name
 pub name_held_lem : (name out : List ℕ) (r : ℕ) → Written name out r → ◌≡◌ {A = Name} (record { octets = out; length = r }) (name_of name)

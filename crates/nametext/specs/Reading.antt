@@ -1,8 +1,10 @@
 -- A name read from text (T-06): its form is judged over the whole text, then the ranges of its numbers, then its sizes.
 -- No octet of a label's text is a dot, so the dots part the labels.
-use Rattle.std.specs.Prelude.{ℕ, zero, suc, ◌+◌, ◌-◌, ◌*◌, ◌%◌, ◌^◌, Bool, true, false, not, ◌&&◌, ◌||◌, List, [], ◌∷◌, ◌++◌, map, leb, ltb, eqb, length, get_or, take, drop}
+use Rattle.std.specs.Prelude.{ℕ, zero, suc, ◌+◌, ◌-◌, ◌*◌, ◌%◌, ◌^◌, Bool, true, false, not, ◌&&◌, ◌||◌, List, [], ◌∷◌, ◌++◌, map, leb, ltb, eqb, length, get_or, take, drop, Result, Ok, Err}
 use Rattle.octets.specs.Octets.{same}
 use Rattle.octets.specs.Answers.{earns}
+use Rattle.octets.specs.declared.Refusal.{Refusal}
+use Rattle.octets.specs.Refusals.{told}
 use Rattle.bits.specs.Bits.{octets_for, unpack}
 use Rattle.labels.specs.Labels.{Label, ordinary, bits, first_of}
 use Rattle.names.specs.Standard.{units, encode}
@@ -147,6 +149,10 @@ name_part s from = take (leading may_name (drop from s)) (drop from s)
 unfoldable pub name_held : List ℕ → Name
 name_held text = elim (eqb (text_number text) 0) [ true ↦ name_of (name_read text) | false ↦ name_of [] ]
 
--- what is read from a place on: the number, the name, and the place after the octets that may stand in one
+-- what is read of a text: the name that it stands for, or the refusal that its number tells
+unfoldable pub name_told : List ℕ → Result Name Refusal
+name_told text = elim (eqb (text_number text) 0) [ true ↦ Ok (name_of (name_read text)) | false ↦ Err (told (text_number text)) ]
+
+-- what is read from a place on: the name, and the place after the octets that may stand in one
 unfoldable pub name_at : List ℕ → ℕ → Named
-name_at s from = record { number = text_number (name_part s from); name = name_held (name_part s from); next = from + leading may_name (drop from s) }
+name_at s from = record { name = name_told (name_part s from); next = from + leading may_name (drop from s) }

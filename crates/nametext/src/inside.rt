@@ -98,7 +98,7 @@ fn put_bits(name: &[u8], at: usize, n: usize, out: &mut [u8], to: usize) -> usiz
     out[to + 2] = 120;
     let a = put_digits(name, at, (n + 3) / 4, out, to + 3);
     out[a] = 47;
-    let b = text::inside::put_decimal(n as u64, out, a + 1);
+    let b = text::inside::put_number::<10>(n as u64, out, a + 1);
     out[b] = 93;
     b + 1
 }

@@ -2,54 +2,32 @@
 #![tactic(auto)]
 
 ghost use Rattle.std.specs.Prelude.{◌≡◌, length};
-ghost use Rattle.text.specs.Digits.{between};
+ghost use Rattle.octets.specs.Refusals.{answered};
 ghost use Rattle.nametext.specs.Characters.{is_plain};
 ghost use Rattle.nametext.specs.Answers.{write_name_answer, write_name_out};
 
-// The text of a name's standard form with zeros after it, and how many octets it has (T-06): 4 for a malformed name, 23 for an output that has no room for the text.
-pub fn write_name(name: &[u8], out: &mut [u8]) -> octets::Answer
-    ensures value { result ≡ write_name_answer name.now (length out.old) }
+use octets::{Done, Refusal};
+
+// The text of a name's standard form with zeros after it, and how many octets it has (T-06): `Given` for a malformed name, `Space` for an output that has no room for the text.
+pub fn write_name(name: &[u8], out: &mut [u8]) -> Result<Done, Refusal>
+    ensures value { answered result ≡ write_name_answer name.now (length out.old) }
     ensures out_after { out.new ≡ write_name_out name.now (length out.old) }
 {
-    let held = names::hold(name);
-    let n = octets::wide(held.length);
-    if n == 0 {
+    let Some(held) = names::hold(name) else {
         octets::clear(out);
-        return octets::refused(4);
-    }
-    let standard = held.octets;
-    let mut written = [0u8; 1020];
-    let length = inside::put_name(&standard[..n], &mut written, 0);
-    text::inside::give(&written, length, out)
+        return Err(Refusal::Given);
+    };
+    let mut text = [0u8; 1020];
+    let length = inside::put_name(held.as_slice(), &mut text, 0);
+    text::inside::give(&text[..length], out)
 }
 
 // A letter, a digit, a hyphen or an underscore.
+#[tactic(auto, using(std::proofs::lemmas::Bool::Decides::nat_tests), unfolding(crate::specs::Characters::is_plain))]
 fn is_plain(x: u8) -> bool
     ensures { result ≡ is_plain x }
 {
-    if within(65, 90, x) {
-        return true;
-    }
-    if within(97, 122, x) {
-        return true;
-    }
-    if within(48, 57, x) {
-        return true;
-    }
-    if x == 45 {
-        return true;
-    }
-    x == 95
-}
-
-// Whether an octet lies between two others, both included.
-fn within(a: u8, b: u8, x: u8) -> bool
-    ensures { result ≡ between a b x }
-{
-    if x < a {
-        return false;
-    }
-    x <= b
+    matches!(x, b'A'..=b'Z' | b'a'..=b'z' | b'0'..=b'9' | b'-' | b'_')
 }
 
 pub mod inside;

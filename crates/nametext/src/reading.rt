@@ -9,14 +9,16 @@ ghost use Rattle.text.specs.Digits.{digit_in, is_digit, is_hex, leading};
 ghost use Rattle.text.specs.Decimal.{decimal_of};
 ghost use Rattle.nametext.specs.Characters.{is_plain, may_name};
 ghost use Rattle.nametext.specs.Writing.{digits_for};
-ghost use Rattle.nametext.specs.Reading.{octets_formed, octets_in, octets_ranged, is_bits_text, bit_octets, text_number, name_read, name_at};
+ghost use Rattle.nametext.specs.Reading.{octets_formed, octets_in, octets_ranged, is_bits_text, bit_octets, text_number, name_read, name_told, name_at};
 ghost use Rattle.nametext.specs.Places.{Dot, Stands, ordinary_part, bit_part, part_of, Quartered, run_size, tallied_word, tallied_bits, tallied, concluded, Low, rest_of, encode_rest, Standing, Filled, Ran, Moved};
 
-// What is read of a name: its number, 0, 20, 21 or 22, the name in standard form, none where the number is not 0, and the place after its text.
+use names::Name;
+use octets::Refusal;
+
+// What is read of a name: the name in standard form, or `Form`, `Range` or `Name` for why there is none, and the place after its text.
 #[derive(Clone, Copy)]
 pub struct Named {
-    pub number: u8,
-    pub name: names::Name,
+    pub name: Result<Name, Refusal>,
     pub next: usize,
 }
 
@@ -54,67 +56,37 @@ pub struct Tally {
 pub fn read_name(s: &[u8], from: usize) -> Named
     ensures { result ≡ name_at s.now from }
 {
-    let next = name_end(s, from);
+    let next = text::inside::pass(s, from, may_name);
     if s.len() < from {
-        let name = no_name();
         return Named {
-            number: 20,
-            name,
+            name: Err(Refusal::Form),
             next,
         };
     }
-    let number = judge(&s[from..next]);
-    if number != 0 {
-        let name = no_name();
-        return Named { number, name, next };
-    }
-    let name = name_in(&s[from..next]);
     Named {
-        number: 0,
-        name,
+        name: read_text(&s[from..next]),
         next,
     }
 }
 
-// No name.
-fn no_name() -> names::Name
-    ensures { result ≡ name_of [] }
+// Reads a text as a name.
+fn read_text(text: &[u8]) -> Result<Name, Refusal>
+    ensures { result ≡ name_told text.now }
 {
-    names::Name {
-        octets: [0u8; 255],
-        length: 0,
+    match judge(text) {
+        0 => Ok(name_in(text)),
+        20 => Err(Refusal::Form),
+        21 => Err(Refusal::Range),
+        _ => Err(Refusal::Name),
     }
-}
-
-// Where the octets from `from` on that may stand in a name end.
-fn name_end(s: &[u8], from: usize) -> usize
-    ensures { result ≡ from + leading may_name (drop from s.now) }
-{
-    let n = s.len();
-    let mut i = from;
-    while i < n {
-        if !may_name(s[i]) {
-            return i;
-        }
-        i += 1;
-    }
-    i
 }
 
 // Whether an octet may stand in a name: they are in three ranges and an underscore.
+#[tactic(auto, using(std::proofs::lemmas::Bool::Decides::nat_tests), unfolding(crate::specs::Characters::may_name, crate::specs::Characters::is_plain))]
 fn may_name(x: u8) -> bool
     ensures { result ≡ may_name x }
 {
-    if crate::within(97, 122, x) {
-        return true;
-    }
-    if crate::within(45, 57, x) {
-        return true;
-    }
-    if crate::within(65, 93, x) {
-        return true;
-    }
-    x == 95
+    matches!(x, b'a'..=b'z' | b'-'..=b'9' | b'A'..=b']' | b'_')
 }
 
 // The number of a text.
@@ -399,13 +371,13 @@ fn is_escape(p: &[u8], i: usize) -> bool
     if p.len() - i < 4 {
         return false;
     }
-    if !crate::within(48, 57, p[i + 1]) {
+    if !p[i + 1].is_ascii_digit() {
         return false;
     }
-    if !crate::within(48, 57, p[i + 2]) {
+    if !p[i + 2].is_ascii_digit() {
         return false;
     }
-    crate::within(48, 57, p[i + 3])
+    p[i + 3].is_ascii_digit()
 }
 
 // The value of a decimal digit.
@@ -518,7 +490,7 @@ fn read_quarters(p: &[u8], from: usize, d: usize) -> Quarters
     let mut v = Quarters { whole: 0, rest: 0 };
     let mut i = from;
     while i < n {
-        if !crate::within(48, 57, p[i]) {
+        if !p[i].is_ascii_digit() {
             return v;
         }
         v = ten_times(v, digit_value(p[i]), d);
@@ -567,13 +539,13 @@ fn hex_value(x: u8) -> u8
 }
 
 // The name that a text with number 0 stands for.
-fn name_in(text: &[u8]) -> names::Name
+fn name_in(text: &[u8]) -> Name
     requires { text_number text.now ≡ 0 }
     ensures { result ≡ name_of (name_read text.now) }
 {
     let mut octets = [0u8; 255];
     let n = put_labels(text, &mut octets);
-    names::Name {
+    Name {
         octets,
         length: n as u8,
     }

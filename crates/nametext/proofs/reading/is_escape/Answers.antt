@@ -13,21 +13,21 @@ returns-then-p-i-lt4 c =
     let a = c.args in
     (sym (three_short a.p.now a.i (omega arith)), λ e. absurd (clash e refl))
 
-pub returns-then-not-within : goal.returns-then-not-within
-returns-then-not-within c =
+pub returns-then-not-is_ascii_digit : goal.returns-then-not-is_ascii_digit
+returns-then-not-is_ascii_digit c =
     let a = c.args in
-    let d = sym c.within.ensures ∙ c.if-not-within.true in
+    let d = sym c.is_ascii_digit.ensures.value ∙ c.if-not-is_ascii_digit.true in
     (three_first (is_digit (get_or a.p.now (a.i + 1) 0)) (is_digit (get_or a.p.now (a.i + 2) 0)) (is_digit (get_or a.p.now (a.i + 3) 0)) d, λ z. absurd (clash z refl))
 
-pub returns-then-not-within-2 : goal.returns-then-not-within-2
-returns-then-not-within-2 c =
+pub returns-then-not-is_ascii_digit-2 : goal.returns-then-not-is_ascii_digit-2
+returns-then-not-is_ascii_digit-2 c =
     let a = c.args in
-    let d = sym c.within-2.ensures ∙ c.if-not-within-2.true in
+    let d = sym c.is_ascii_digit-2.ensures.value ∙ c.if-not-is_ascii_digit-2.true in
     (three_second (is_digit (get_or a.p.now (a.i + 1) 0)) (is_digit (get_or a.p.now (a.i + 2) 0)) (is_digit (get_or a.p.now (a.i + 3) 0)) d, λ z. absurd (clash z refl))
 
 pub returns : goal.returns
 returns c =
     let a = c.args in
-    let d = sym c.within.ensures ∙ c.if-not-within.false in
-    let e = sym c.within-2.ensures ∙ c.if-not-within-2.false in
-    (three_last (is_digit (get_or a.p.now (a.i + 1) 0)) (is_digit (get_or a.p.now (a.i + 2) 0)) (is_digit (get_or a.p.now (a.i + 3) 0)) c.within-3.result d e c.within-3.ensures, λ z. omega (arith, c.if-p-i-lt4.false))
+    let d = sym c.is_ascii_digit.ensures.value ∙ c.if-not-is_ascii_digit.false in
+    let e = sym c.is_ascii_digit-2.ensures.value ∙ c.if-not-is_ascii_digit-2.false in
+    (three_last (is_digit (get_or a.p.now (a.i + 1) 0)) (is_digit (get_or a.p.now (a.i + 2) 0)) (is_digit (get_or a.p.now (a.i + 3) 0)) c.is_ascii_digit-3.result d e c.is_ascii_digit-3.ensures.value, λ z. omega (arith, c.if-p-i-lt4.false))

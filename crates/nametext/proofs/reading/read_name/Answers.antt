@@ -1,36 +1,34 @@
--- `nametext::reading::read_name` meets its contract: one law for each return.
-use Rattle.nametext.proofs.NamedLaws.{name_refused, name_read_lem, name_beyond, next_after}
+-- `nametext::reading::read_name` meets its contract.
+use Prim.Native.Nat.{◌+◌, ◌≤◌}
+use mathlib.Core.Path.{◌≡◌}
+use lib.ListN.{length, drop}
 use native.Mathlib.Omega.{arith}
+use borrow.Author.Rules.{rules}
+use Rattle.text.specs.Digits.{leading}
+use Rattle.nametext.specs.Characters.{may_name}
+use Rattle.nametext.proofs.NamedLaws.{named_at, name_beyond, next_after}
+use Rattle.nametext.proofs.reading.read_name.Goals.{After-pass-next}
 use Rattle.nametext.proofs.reading.read_name.Goals as goal
 
+next : (c : After-pass-next) → c.pass-next.result ≡ c.args.from + leading may_name (drop c.args.from c.args.s.now)
+next c = c.pass-next.ensures may_name (λ x l b p. search rules)
+
 pub returns-then-s-from : goal.returns-then-s-from
-returns-then-s-from c =
-    let a = c.args in
-    let e = c.name_end-next in
-    name_beyond a.s.now a.from e.result c.no_name-name.result c.if-s-from.true e.ensures c.no_name-name.ensures
+returns-then-s-from c = let a = c.args in name_beyond a.s.now a.from c.pass-next.result (next (goal.at.returns-then-s-from c).After-pass-next) (omega arith)
 
-pub slice_bounds-judge-end : goal.slice_bounds-judge-end
-slice_bounds-judge-end c =
-    let a = c.args in
-    let e = c.name_end-next in
-    (next_after a.s.now a.from e.result e.ensures (omega (arith, c.if-s-from.false))).1
+pub slice_bounds-read_text-count : goal.slice_bounds-read_text-count
+slice_bounds-read_text-count c = omega (arith, next (goal.at.slice_bounds-read_text-count c).After-pass-next)
 
-pub returns-then-number-ne0 : goal.returns-then-number-ne0
-returns-then-number-ne0 c =
-    let a = c.args in
-    let e = c.name_end-next in
-    let j = c.judge-number in
-    name_refused a.s.now a.from e.result e.ensures j.result c.no_name-name-then-number-ne0.result j.ensures c.if-number-ne0.true c.no_name-name-then-number-ne0.ensures
+pub slice_bounds-read_text-start : goal.slice_bounds-read_text-start
+slice_bounds-read_text-start c =
+    let h : c.args.from ≤ c.pass-next.result = omega (arith, next (goal.at.slice_bounds-read_text-start c).After-pass-next) in
+    search rules
 
-pub slice_bounds-name_in-end : goal.slice_bounds-name_in-end
-slice_bounds-name_in-end c =
+pub slice_bounds-read_text-end : goal.slice_bounds-read_text-end
+slice_bounds-read_text-end c =
     let a = c.args in
-    let e = c.name_end-next in
-    (next_after a.s.now a.from e.result e.ensures (omega (arith, c.if-s-from.false))).1
+    let h : c.pass-next.result ≤ length c.args.s.now = (next_after a.s.now a.from c.pass-next.result (next (goal.at.slice_bounds-read_text-end c).After-pass-next) (omega arith)).1 in
+    search rules
 
 pub returns : goal.returns
-returns c =
-    let a = c.args in
-    let e = c.name_end-next in
-    let j = c.judge-number in
-    name_read_lem a.s.now a.from e.result e.ensures j.result c.name_in-name.result j.ensures c.if-number-ne0.false c.name_in-name.ensures
+returns c = let a = c.args in named_at a.s.now a.from c.pass-next.result (next (goal.at.returns c).After-pass-next) c.read_text.result c.read_text.ensures
