@@ -1,5 +1,5 @@
 -- Addresses in two halves: they are the octets that were read, their order is that of the numbers, and joining them is joining addresses.
-use Rattle.std.proofs.Common.{◌≡◌, ℕ, zero, suc, ◌+◌, ◌-◌, ◌*◌, ◌/◌, ◌%◌, ◌^◌, ◌<◌, ◌≤◌, Bool, true, false, eqb, leb, List, [], ◌++◌, length, take, drop, sym, refl, ap, ◌∙◌, append_assoc, append-nil, mod-lt, mod-eq_of_lt, arith, length-append, length-drop, length-take, drop-drop, take_at, take-add, drop_at, pow_pos, pow-add, shr_lt, eqb-true, le-leb, leb-false, leb-true}
+use Rattle.std.proofs.Common.{◌≡◌, ℕ, zero, suc, ◌+◌, ◌-◌, ◌*◌, ◌/◌, ◌%◌, ◌^◌, ◌<◌, ◌≤◌, Bool, true, false, ◌&&◌, eqb, leb, List, [], ◌++◌, length, take, drop, sym, refl, ap, ◌∙◌, append_assoc, append-nil, mod-lt, mod-eq_of_lt, arith, length-append, length-drop, length-take, drop-drop, take_at, take-add, drop_at, pow_pos, pow-add, shr_lt, eqb-true, le-leb, leb-false, leb-true}
 use lib.Arith.{digits_lt}
 use lib.Pow.{high, low}
 use lib.Seq.{take-append-add, drop-append-add}
@@ -11,16 +11,17 @@ use Rattle.octets.proofs.BoolLaws.{refuted}
 use Rattle.octets.proofs.OctetLaws.{small_take, small_drop}
 use Rattle.bits.proofs.BitLaws.{bits_length, bits_split, pack_full}
 use Rattle.bits.proofs.PackingLaws.{unpack_pack, bits_append, bits_bits, bits_mod}
-use Rattle.std.specs.declared.cmp.Ordering.TheVariants.{Less, Equal, Greater}
+use Rattle.std.specs.declared.cmp.Ordering.TheVariants.{Less}
 use Rattle.address.specs.Address.{bits, join_of}
 use Rattle.address.specs.Picture.{mix, join_octets}
 use Rattle.address.specs.Order.{order_of}
 use Rattle.octets.specs.Numbers.{value_of, octets_of}
-use Rattle.octets.proofs.NumberLaws.{value_append, octets_length, octets_small, value_octets_lem, value_half, octets_value}
+use Rattle.octets.proofs.NumberLaws.{value_append, octets_length, octets_small, value_octets_lem, octets_value}
 use Rattle.octets.proofs.SmallLaws.{small_append}
 use Rattle.address.proofs.JoinLaws.{picture}
-use Rattle.address.proofs.OrderLaws.{value_precedes, precedes_after, same_equal, equal_same}
-use Rattle.rows.specs.Halves.{address_of, join_halves}
+use Rattle.address.proofs.OrderLaws.{value_precedes, precedes_value, same_equal, equal_same}
+use Rattle.rows.specs.declared.inside.Halves.{Halves}
+use Rattle.rows.specs.Halves.{address_of, whole, join_halves}
 use Rattle.rows.specs.Rows.{is_same}
 use Rattle.rows.proofs.RowsLaws.{is_same_lem}
 
@@ -181,51 +182,43 @@ module _ (o : List ℕ) (at : ℕ) (n : at + 16 ≤ length o) (s : Small o) wher
       sym (two ∙ λ i. (sym (octets_value first first_small) ∙ ap (λ (n : ℕ). octets_of n (value_of first)) first_length) i
       ++ (sym (octets_value last last_small) ∙ ap (λ (n : ℕ). octets_of n (value_of last)) last_length_lem) i)
 
-  -- the order is that of the numbers
-  module _ (h l : ℕ) (lh : h < 2 ^ 64) (ll : l < 2 ^ 64) where
-    address_value : value_of (address_of h l) ≡ h * 2 ^ 64 + l
-    unfolding address_of
-    address_value =
-        value_append (octets_of 8 h) (octets_of 8 l)
-        ∙ rw (octets_length 8 l, value_octets_lem 8 h, value_octets_lem 8 l, mod-eq_of_lt lh, mod-eq_of_lt ll)
+-- ---- the order is that of the numbers
+abbrev Fits64 : Halves → Type 0
+Fits64 x = (x.high < 2 ^ 64) × (x.low < 2 ^ 64)
 
-    row_value : value_of (take 16 (drop at o)) ≡ value_of first * 2 ^ 64 + value_of last
-    row_value = ap value_of two ∙ value_append first last ∙ rw last_length_lem
+whole_value : (x : Halves) → Fits64 x → value_of (whole x) ≡ x.high * 2 ^ 64 + x.low
+unfolding address_of
+whole_value x f =
+    value_append (octets_of 8 x.high) (octets_of 8 x.low)
+    ∙ rw (octets_length 8 x.low, value_octets_lem 8 x.high, value_octets_lem 8 x.low, mod-eq_of_lt f.0, mod-eq_of_lt f.1)
 
-    row_length : length (take 16 (drop at o)) ≡ length (address_of h l)
-    row_length = omega (arith, length-take 16 (drop at o), length-drop at o, address_length h l)
+module _ (x y : Halves) (f : Fits64 x) (g : Fits64 y) where
+  lengths : length (whole x) ≡ length (whole y)
+  lengths = address_length x.high x.low ∙ sym (address_length y.high y.low)
 
-    row_small : Small (take 16 (drop at o))
-    row_small = small_take 16 (drop at o) (small_drop at o s)
+  pub whole_before : x.high * 2 ^ 64 + x.low < y.high * 2 ^ 64 + y.low → order_of (whole x) (whole y) ≡ Less
+  whole_before p =
+      value_precedes (whole x) (whole y) lengths (address_small x.high x.low) (address_small y.high y.low) (omega (arith, whole_value x f, whole_value y g))
 
-    pub stands_before : value_of first * 2 ^ 64 + value_of last < h * 2 ^ 64 + l → order_of (take 16 (drop at o)) (address_of h l) ≡ Less
-    stands_before p = value_precedes (take 16 (drop at o)) (address_of h l) row_length row_small (address_small h l) (omega (arith, row_value, address_value))
+  pub before_whole : order_of (whole x) (whole y) ≡ Less → x.high * 2 ^ 64 + x.low < y.high * 2 ^ 64 + y.low
+  before_whole p =
+      let v = precedes_value (whole x) (whole y) lengths (address_small x.high x.low) (address_small y.high y.low) p in
+      omega (arith, v, whole_value x f, whole_value y g)
 
-    pub stands_after : h * 2 ^ 64 + l < value_of first * 2 ^ 64 + value_of last → order_of (take 16 (drop at o)) (address_of h l) ≡ Greater
-    stands_after p =
-        precedes_after (take 16 (drop at o)) (address_of h l)
-        (value_precedes (address_of h l) (take 16 (drop at o)) (sym row_length) (address_small h l) row_small (omega (arith, row_value, address_value)))
+  -- two addresses are the same where both halves are, and only there
+  pub whole_same : is_same (order_of (whole x) (whole y)) ≡ true → (x.high ≡ y.high) × (x.low ≡ y.low)
+  whole_same e =
+      let v = ap value_of (same_equal (whole x) (whole y) (is_same_lem (order_of (whole x) (whole y)) e)) in
+      let p : x.high ≡ y.high = omega (arith, v, whole_value x f, whole_value y g) in
+      (p, omega (arith, v, p, whole_value x f, whole_value y g))
 
-    pub stands_same : value_of first ≡ h → value_of last ≡ l → order_of (take 16 (drop at o)) (address_of h l) ≡ Equal
-    stands_same p q = equal_same (take 16 (drop at o)) (address_of h l) (sym halves ∙ λ i. address_of (p i) (q i))
-
-    -- the row is the address where both halves are the same, and only there
-    same_halves : is_same (order_of (take 16 (drop at o)) (address_of h l)) ≡ true → (value_of first ≡ h) × (value_of last ≡ l)
-    same_halves e =
-        let v = ap value_of (same_equal (take 16 (drop at o)) (address_of h l) (is_same_lem (order_of (take 16 (drop at o)) (address_of h l)) e)) in
-        let b = value_half o (at + 8) (omega arith) s in
-        let p : value_of first ≡ h = omega (arith, v, b, row_value, address_value) in
-        (p, omega (arith, v, p, row_value, address_value))
-
-    pub first_other : (value_of first ≡ h → ⊥) → false ≡ is_same (order_of (take 16 (drop at o)) (address_of h l))
-    first_other p = sym (refuted _ (λ e. p (same_halves e).0))
-
-    pub last_tells : value_of first ≡ h → eqb (value_of last) l ≡ is_same (order_of (take 16 (drop at o)) (address_of h l))
-    last_tells p = go (eqb (value_of last) l) refl
-      where
-        go : (b : Bool) → eqb (value_of last) l ≡ b → b ≡ is_same (order_of (take 16 (drop at o)) (address_of h l))
-        go true q = ap is_same (sym (stands_same p (eqb-true (value_of last) l q)))
-        go false q = sym (refuted _ (λ e. eqb-false (value_of last) l q (same_halves e).1))
+  pub whole_tells : (eqb x.high y.high && eqb x.low y.low) ≡ is_same (order_of (whole x) (whole y))
+  whole_tells = go (eqb x.high y.high) (eqb x.low y.low) refl refl
+    where
+      go : (a b : Bool) → eqb x.high y.high ≡ a → eqb x.low y.low ≡ b → (a && b) ≡ is_same (order_of (whole x) (whole y))
+      go true true p q = sym (ap is_same (equal_same (whole x) (whole y) (λ i. address_of (eqb-true x.high y.high p i) (eqb-true x.low y.low q i))))
+      go true false p q = sym (refuted _ (λ e. eqb-false x.low y.low q (whole_same e).1))
+      go false b p q = sym (refuted _ (λ e. eqb-false x.high y.high p (whole_same e).0))
 
 -- ---- bits of one number above k, and of another below
 pub mixed_lt : (x y k : ℕ) → k < 64 → x < 2 ^ 64 → x / 2 ^ k * 2 ^ k + y % 2 ^ k < 2 ^ 64

@@ -1,10 +1,6 @@
 -- Laws of the rows while an address is sought and put in its place with its lifetime.
-use Rattle.std.proofs.Common.{◌≡◌, ℕ, zero, suc, ◌+◌, ◌-◌, ◌*◌, ◌/◌, ◌<◌, ◌≤◌, min, Bool, true, false, ◌&&◌, eqb, ltb, List, [], ◌∷◌, ◌++◌, length, get_or, take, drop, set, sym, refl, ap, ◌∙◌, subst, ⊎_elim, append_assoc, append-nil, arith, length-append, length-drop, length-set, take-append-drop, length-take-le, take_all, drop-cons, get_or-set_other, get_or-take, take-suc, get_or-set_same, take-take, drop-drop, drop_at, ltb-true, le-ltb, lt-ltb, le-leb}
-use lib.ListN.{get_or-append}
+use Rattle.std.proofs.Common.{◌≡◌, ℕ, zero, suc, ◌+◌, ◌-◌, ◌*◌, ◌/◌, ◌<◌, ◌≤◌, min, Bool, true, false, ◌&&◌, ltb, List, [], ◌∷◌, ◌++◌, length, get_or, take, drop, set, sym, refl, ap, ◌∙◌, append_assoc, arith, length-append, length-drop, length-take-le, take_all, take-suc, take-take, drop-drop, drop_at, ltb-true, le-ltb, lt-ltb, le-leb}
 use lib.Seq.{take-append-le, append_snoc, set_at, set-get_or, paste, take-paste, drop-paste}
-use types.Run.{OneOf}
-use denote.Enum.Declared.{tag_of}
-use Rattle.std.specs.contracts.cmp.Ordering.{the_type}
 use borrow.Author.Tests.{lt-leb}
 use Rattle.std.specs.declared.cmp.Ordering.{Ordering}
 use Rattle.std.specs.declared.cmp.Ordering.TheVariants.{Less, Equal, Greater}
@@ -13,7 +9,8 @@ use Rattle.octets.specs.Numbers.{octets_of}
 use Rattle.octets.proofs.BoolLaws.{clash}
 use Rattle.octets.proofs.NumberLaws.{octets_length}
 use Rattle.rows.specs.Halves.{address_of}
-use Rattle.rows.specs.Rows.{row, seek, moved, put_at, lowered, Kept, max_figures, kept, is_same, keep_at, keep_in}
+use Rattle.std.specs.List.{copy_within}
+use Rattle.rows.specs.Rows.{row, seek, put_at, lowered, Kept, is_same, keep_at, keep_in}
 
 -- ---- seeking
 pub seek_end : (most : ℕ) (out v : List ℕ) (a b : ℕ) → b ≤ a → seek most out v a b ≡ a
@@ -36,10 +33,6 @@ module _ (most : ℕ) (out v : List ℕ) (a b : ℕ) (h : a < b) where
       go Less d = absurd (d refl)
       go Equal d = refl
       go Greater d = refl
-
--- what a `match` says of the arms that are not named
-pub not_before : (o : Ordering) → OneOf (1 ∷ 2 ∷ []) (tag_of the_type o) → o ≡ Less → ⊥
-not_before o k e = ⊎_elim (λ q. omega arith) (λ q. omega arith) (subst (λ (v : Ordering). OneOf (1 ∷ 2 ∷ []) (tag_of the_type v)) e k)
 
 -- what is left to seek, from a to b, comes to what all of it comes to, r
 pub record Seeking (out v : List ℕ) (r a b : ℕ) : Type 0 where
@@ -69,64 +62,14 @@ module _ (out v : List ℕ) (r : ℕ) where
     pub seeking_left : (order_of (row out ((a + b) / 2)) v ≡ Less → ⊥) → Seeking out v r a ((a + b) / 2)
     seeking_left n = record { most = less; enough = let q = s.enough in omega arith; comes = sym (seek_left less out v a b h n) ∙ whole }
 
--- ---- what stands moved up by a row, one at a time from the last
-moved_none : (w c : ℕ) (o : List ℕ) → o ≡ moved w c c o
-unfolding moved
-moved_none w c o =
-    let e : c - c ≡ 0 = omega arith in
-    rw e (sym (ap (λ (l : List ℕ). l ++ drop (c + w) o) (append-nil (take (c + w) o)) ∙ take-append-drop (c + w) o))
+-- ---- what stands moved up by a row, with what is at k still there
+abbrev moved : ℕ → ℕ → ℕ → List ℕ → List ℕ
+moved w k c o = take (k + w) o ++ take (c - k) (drop k o) ++ drop (c + w) o
 
-module _ (w j c : ℕ) (o : List ℕ) (n : 0 < w) (h : j < c) (l : c + w ≤ length o) where
-  abbrev rest : List ℕ
-  rest = take (c - suc j) (drop (suc j) o) ++ drop (c + w) o
-
-  moved_next : moved w (suc j) c o ≡ take (j + w) o ++ get_or o (j + w) 0 ∷ rest
-  unfolding moved
-  moved_next =
-      let e : suc j + w ≡ suc (j + w) = omega arith in
-      rw (e, take-suc o (j + w) 0 (omega arith))
-      (append_assoc (take (j + w) o ++ (get_or o (j + w) 0 ∷ [])) (take (c - suc j) (drop (suc j) o)) (drop (c + w) o) ∙ append_snoc (take (j + w) o) (get_or o (j + w) 0) rest)
-
-  moved_here : moved w j c o ≡ take (j + w) o ++ get_or o j 0 ∷ rest
-  unfolding moved
-  moved_here =
-      let e : c - j ≡ suc (c - suc j) = omega arith in
-      rw (e, drop-cons o j 0 (omega arith)) (append_assoc (take (j + w) o) (get_or o j 0 ∷ take (c - suc j) (drop (suc j) o)) (drop (c + w) o))
-
-  moved_one : set (moved w (suc j) c o) (j + w) (get_or (moved w (suc j) c o) j 0) ≡ moved w j c o
-  moved_one =
-      let m : length (take (j + w) o) ≡ j + w = length-take-le (j + w) o (omega arith) in
-      let x : get_or (take (j + w) o ++ get_or o (j + w) 0 ∷ rest) j 0 ≡ get_or o j 0 =
-      get_or-append (take (j + w) o) _ 0 j (omega arith) ∙ get_or-take (j + w) o j 0 (omega arith) in
-      ap (λ (m : List ℕ). set m (j + w) (get_or m j 0)) moved_next
-      ∙ ap (set (take (j + w) o ++ get_or o (j + w) 0 ∷ rest) (j + w)) x
-      ∙ set_at (take (j + w) o) (get_or o (j + w) 0) rest (get_or o j 0) (j + w) m
-      ∙ sym moved_here
-
--- the loop that moves them, at rows of any width: what it keeps
-pub record Moving (w k c : ℕ) (old new : List ℕ) (j : ℕ) : Type 0 where
-  pub low : k ≤ j
-  pub high : j ≤ c
-  pub moves : new ≡ moved w j c old
-  pub long : length new ≡ length old
-
-pub moving_start : (w k c : ℕ) (o : List ℕ) → k ≤ c → Moving w k c o o c
-moving_start w k c o h = record { low = h; high = omega arith; moves = moved_none w c o; long = refl }
-
-module _ {w k c : ℕ} {old new : List ℕ} {j : ℕ} (m : Moving w k c old new j) where
-  pub moving_turn : 0 < w → k < j → c + w ≤ length old → Moving w k c old (set new (j - 1 + w) (get_or new (j - 1) 0)) (j - 1)
-  moving_turn n h l =
-      let e : j ≡ suc (j - 1) = omega arith in
-      record {
-        low = omega arith;
-        high = omega (arith, m.high);
-        moves = ap (λ (o : List ℕ). set o (j - 1 + w) (get_or o (j - 1) 0)) (m.moves ∙ ap (λ (i : ℕ). moved w i c old) e)
-            ∙ moved_one w (j - 1) c old n (omega (arith, m.high)) l;
-        long = length-set new (j - 1 + w) (get_or new (j - 1) 0) ∙ m.long;
-      }
-
-  pub moving_end : j ≤ k → new ≡ moved w k c old
-  moving_end h = let e : j ≡ k = omega (arith, m.low) in m.moves ∙ ap (λ (i : ℕ). moved w i c old) e
+copied : (w k c : ℕ) (o : List ℕ) → k ≤ c → copy_within o k c (k + w) ≡ moved w k c o
+copied w k c o h =
+    let e : k + w + (c - k) ≡ c + w = omega arith in
+    ap (λ (n : ℕ). take (k + w) o ++ take (c - k) (drop k o) ++ drop n o) e
 
 -- ---- and the two halves of an address written below them
 module _ (k c : ℕ) (o : List ℕ) (high low : ℕ) (h : k ≤ c) (l : c + 16 ≤ length o) where
@@ -143,24 +86,21 @@ module _ (k c : ℕ) (o : List ℕ) (high low : ℕ) (h : k ≤ c) (l : c + 16 �
   t_length = length-take-le (k + 16) o (omega arith)
 
   moved_before : take k (moved 16 k c o) ≡ take k o
-  unfolding moved
   moved_before = let n = t_length in ap (take k) (append_assoc t m d) ∙ take-append-le k t (m ++ d) (omega arith) ∙ take-take k (k + 16) o (omega arith)
 
   moved_after : drop (k + 16) (moved 16 k c o) ≡ m ++ d
-  unfolding moved
   moved_after = ap (drop (k + 16)) (append_assoc t m d) ∙ drop_at t (m ++ d) (k + 16) t_length
 
   moved_length : length (moved 16 k c o) ≡ length o
-  unfolding moved
   moved_length =
       omega (arith, length-append (t ++ m) d, length-append t m, t_length, length-take-le (c - k) (drop k o) (omega (arith, length-drop k o)), length-drop (c + 16) o)
 
-  pub put_halves : (o₀ o₁ o₂ : List ℕ) → o₀ ≡ moved 16 k c o → o₁ ≡ paste o₀ k (octets_of 8 high) 8 → o₂ ≡ paste o₁ (k + 8) (octets_of 8 low) 8
+  pub put_halves : (o₀ o₁ o₂ : List ℕ) → o₀ ≡ copy_within o k c (k + 16) → o₁ ≡ paste o₀ k (octets_of 8 high) 8 → o₂ ≡ paste o₁ (k + 8) (octets_of 8 low) 8
       → o₂ ≡ put_at 16 k c (address_of high low) o
   unfolding put_at address_of
   put_halves o₀ o₁ o₂ e₀ e₁ f =
       let n = moved_length in
-      let e : o₁ ≡ paste (moved 16 k c o) k (octets_of 8 high) 8 = e₁ ∙ ap (λ (w : List ℕ). paste w k (octets_of 8 high) 8) e₀ in
+      let e : o₁ ≡ paste (moved 16 k c o) k (octets_of 8 high) 8 = e₁ ∙ ap (λ (w : List ℕ). paste w k (octets_of 8 high) 8) (e₀ ∙ copied 16 k c o h) in
       let H = octets_of 8 high in
       let L = octets_of 8 low in
       let a : take (k + 8) o₁ ≡ take k o ++ H =
@@ -175,14 +115,17 @@ module _ (k c : ℕ) (o : List ℕ) (high low : ℕ) (h : k ≤ c) (l : c + 16 �
       ∙ sym (append_assoc (take k o ++ (H ++ L)) m d)
 
 -- ---- and one number written below them
-pub put_one : (k c : ℕ) (o : List ℕ) (t : ℕ) → k ≤ c → c < length o → set (moved 1 k c o) k t ≡ put_at 1 k c (t ∷ []) o
-unfolding moved put_at
-put_one k c o t h l =
+put_here : (k c : ℕ) (o : List ℕ) (t : ℕ) → k ≤ c → c < length o → set (moved 1 k c o) k t ≡ put_at 1 k c (t ∷ []) o
+unfolding put_at
+put_here k c o t h l =
     let m = take (c - k) (drop k o) in
     let d = drop (c + 1) o in
     let e : k + 1 ≡ suc k = omega arith in
     rw (e, take-suc o k 0 (omega arith), append_assoc (take k o ++ (get_or o k 0 ∷ [])) m d, append_snoc (take k o) (get_or o k 0) (m ++ d))
     (set_at (take k o) (get_or o k 0) (m ++ d) t k (length-take-le k o (omega arith)) ∙ sym (append_snoc (take k o) t (m ++ d)) ∙ sym (append_assoc (take k o ++ (t ∷ [])) m d))
+
+pub put_one : (k c : ℕ) (o : List ℕ) (t : ℕ) → k ≤ c → c < length o → set (copy_within o k c (k + 1)) k t ≡ put_at 1 k c (t ∷ []) o
+put_one k c o t h l = ap (λ (m : List ℕ). set m k t) (copied 1 k c o h) ∙ put_here k c o t h l
 
 -- ---- a number lowered
 pub lowered_less : (l : List ℕ) (k t : ℕ) → t < get_or l k 0 → set l k t ≡ lowered k t l
@@ -209,6 +152,20 @@ module _ (v : List ℕ) (t : ℕ) (s : Kept) where
   keep_at_lem k h e = rw (h, ← e)
 
   module _ (k : ℕ) where
+    -- the row at k is v
+    abbrev pub met : Bool
+    met = ltb k s.count && is_same (order_of (row s.out k) v)
+
+    pub met_there : met ≡ true → (k < s.count) × (is_same (order_of (row s.out k) v) ≡ true)
+    met_there e = go (ltb k s.count) refl e
+      where
+        go : (b : Bool) → ltb k s.count ≡ b → b && is_same (order_of (row s.out k) v) ≡ true → (k < s.count) × (is_same (order_of (row s.out k) v) ≡ true)
+        go true p q = (ltb-true k s.count p, q)
+        go false p q = absurd (clash q refl)
+
+    pub met_not : met ≡ false → k < s.count → is_same (order_of (row s.out k) v) ≡ false
+    met_not e l = rw (lt-ltb k s.count l) at e
+
     pub keep_found : k < s.count → is_same (order_of (row s.out k) v) ≡ true
         → record { out = s.out; lives = lowered k t s.lives; count = s.count; full = s.full } ≡ keep_at k v t s
     unfolding keep_at
@@ -230,33 +187,3 @@ module _ (v : List ℕ) (t : ℕ) (s : Kept) where
       pub keep_over : length s.out < s.count * 16 + 16 → record { out = s.out; lives = s.lives; count = s.count; full = true } ≡ keep_at k v t s
       unfolding keep_at
       keep_over l = rw (absent, lt-leb (s.count * 16 + 16) (length s.out) l)
-
--- a hint changes nothing of what is kept
-pub kept_hint : (out lives figures : List ℕ) (spot k : ℕ) → 2 ≤ spot → kept out lives (set figures spot k) ≡ kept out lives figures
-kept_hint out lives figures spot k h =
-    λ i. record {
-      out = out;
-      lives = lives;
-      count = get_or-set_other figures spot 0 k 0 (λ z. omega arith) i;
-      full = eqb (get_or-set_other figures spot 1 k 0 (λ z. omega arith) i) 1;
-    }
-
--- and the figures as the code has them
-module _ (v : List ℕ) (t : ℕ) (out lives figures : List ℕ) (places : length figures ≡ max_figures) where
-  abbrev count : ℕ
-  count = get_or figures 0 0
-
-  module _ (k : ℕ) (n : k < count → is_same (order_of (row out k) v) ≡ false) where
-    pub kept_new : eqb (get_or figures 1 0) 1 ≡ false → count * 16 + 16 ≤ length out → (out' lives' : List ℕ) → out' ≡ put_at 16 (k * 16) (count * 16) v out → lives' ≡ put_at 1 k count (t ∷ []) lives
-        → kept out' lives' (set figures 0 (count + 1)) ≡ keep_at k v t (kept out lives figures)
-    kept_new h l out' lives' q r =
-        let c = get_or-set_same figures 0 (count + 1) 0 (omega arith) in
-        let f : eqb (get_or (set figures 0 (count + 1)) 1 0) 1 ≡ false =
-        ap (λ (b : ℕ). eqb b 1) (get_or-set_other figures 0 1 (count + 1) 0 (λ z. omega arith)) ∙ h in
-        (λ i. record { out = q i; lives = r i; count = c i; full = f i }) ∙ keep_new v t (kept out lives figures) k n l
-
-    pub kept_over : length out < count * 16 + 16 → kept out lives (set figures 1 1) ≡ keep_at k v t (kept out lives figures)
-    kept_over l =
-        let c = get_or-set_other figures 1 0 1 0 (λ z. omega arith) in
-        let f : eqb (get_or (set figures 1 1) 1 0) 1 ≡ true = ap (λ (b : ℕ). eqb b 1) (get_or-set_same figures 1 1 0 (omega arith)) in
-        (λ i. record { out = out; lives = lives; count = c i; full = f i }) ∙ keep_over v t (kept out lives figures) k n l

@@ -1,2 +1,3 @@
 pub mod Halves
 pub mod Rows
+pub mod Held

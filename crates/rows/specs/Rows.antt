@@ -1,6 +1,6 @@
 -- The output while a search runs: rows of sixteen octets, ascending, each address once, and beside each its lifetime so far.
 -- The code's own: nothing that a reader must believe.
-use Rattle.std.specs.Prelude.{◌≡◌, ℕ, zero, suc, ◌+◌, ◌-◌, ◌*◌, ◌/◌, ◌<◌, ◌≤◌, min, Bool, true, false, ◌&&◌, ◌⊎◌, List, [], ◌∷◌, ◌++◌, map, length, take, drop, ◌==◌, nat_le, nat_lt, slice_index, slice_range, slice_set}
+use Rattle.std.specs.Prelude.{◌≡◌, ℕ, zero, suc, ◌+◌, ◌-◌, ◌*◌, ◌/◌, ◌<◌, ◌≤◌, min, Bool, true, false, ◌&&◌, ◌⊎◌, List, [], ◌∷◌, ◌++◌, map, length, take, drop, nat_le, nat_lt, slice_index, slice_range, slice_set}
 use Rattle.octets.specs.Octets.{blank, same, flat}
 use Rattle.octets.specs.Each.{Each}
 use Rattle.std.specs.declared.cmp.Ordering.{Ordering}
@@ -27,11 +27,7 @@ seek (suc most) out v a b =
       | false ↦ a
     ]
 
--- what stands from k to c so far on as a row is wide, with what is at k still there
-unfoldable pub moved : ℕ → ℕ → ℕ → List ℕ → List ℕ
-moved wide k c out = take (k + wide) out ++ slice_range out k c ++ drop (c + wide) out
-
--- and v at k
+-- v at k, and what stands from k to c moved on as far as a row is wide
 unfoldable pub put_at : ℕ → ℕ → ℕ → List ℕ → List ℕ → List ℕ
 put_at wide k c v out = take k out ++ v ++ slice_range out k c ++ drop (c + wide) out
 
@@ -45,17 +41,6 @@ pub record Kept : Type 0 where
   pub lives : List ℕ
   pub count : ℕ
   pub full : Bool
-
--- how many hints there are, and the figures: the count, the mark, then the hints
-abbrev pub max_hints : ℕ
-max_hints = 256
-
-abbrev pub max_figures : ℕ
-max_figures = 2 + max_hints
-
--- as the code holds it, with the count and the mark in the first two figures; a hint says nothing of what is kept
-abbrev pub kept : List ℕ → List ℕ → List ℕ → Kept
-kept out lives figures = record { out = out; lives = lives; count = slice_index figures 0; full = (slice_index figures 1 == 1) }
 
 abbrev pub is_same : Ordering → Bool
 is_same Less = false

@@ -7,7 +7,7 @@ use mathlib.Core.List.{List, [], ◌∷◌, ◌++◌, map}
 use native.Mathlib.Decide.{dec_lt}
 use native.Mathlib.Omega.{arith}
 use lib.Dec.{eqb}
-use lib.ListN.{length, replicate, length-map}
+use lib.ListN.{length, length-map}
 use borrow.Author.Tests.{lt-ltb, le-ltb, eqb-true}
 use Rattle.octets.specs.Octets.{blank, same, flat}
 use Rattle.octets.specs.Answers.{answering}
@@ -25,11 +25,13 @@ use Rattle.chains.specs.Lifetimes.{least_ttl, lifetime_in, lifetime_of}
 use Rattle.chains.proofs.Listed.{listed_chain}
 use Rattle.chains.proofs.LifetimeLaws.{least_below, lifetime_spell}
 use Rattle.chains.proofs.SpellingLaws.{spelt_length, spell_spelt, addresses_spell}
-use Rattle.rows.specs.Rows.{Kept, max_figures, kept, keep_in, Holds, Lived}
+use Rattle.rows.specs.Rows.{Kept, keep_in, Holds, Lived}
+use Rattle.rows.specs.Held.{none_yet}
 use Rattle.search.specs.Search.{Records, graph_of, State, visit, run, searched}
 use Rattle.octets.specs.Numbers.{octets_of}
 use Rattle.rows.specs.Halves.{address_of}
-use Rattle.search.specs.Links.{Linked, Numbered, Fresh, Memory, memory, state_of, unused_of, search_of, Fit, Done}
+use Rattle.search.specs.Links.{Linked, Numbered, Fresh}
+use Rattle.search.specs.Memory.{Memory, memory, state_of, unused_of, search_of, Fit, Leaves}
 use Rattle.search.specs.Answers.{number_of, answer_of, output_of, lives_of}
 use Rattle.rows.proofs.HalvesLaws.{address_length, address_small}
 use Rattle.search.proofs.LinkLaws.{marks_none}
@@ -216,10 +218,10 @@ numbered_sound r n = record {
 -- ---- where the search begins: every record in its list, nothing kept
 module _ (r : Records) (n : Numbered r) (next prev out lives : List ℕ) (limit : ℕ) (h : Fresh r.owners next prev) (whole : length out % 16 ≡ 0) (zeros : out ≡ blank (length out))
     (level : length lives * 16 ≡ length out) (none : lives ≡ blank (length lives)) where
-  abbrev first : Memory
-  first = memory next prev out lives (replicate max_figures 0) (limit + 1)
+  abbrev pub first : Memory
+  first = memory next prev (none_yet out lives) (limit + 1)
 
-  begins : kept first.out first.lives first.figures ≡ start (length out / 16)
+  begins : first.kept ≡ start (length out / 16)
   begins =
       let q : length out ≡ length out / 16 * 16 = omega arith in
       let y : length lives ≡ length out / 16 = omega (arith, level) in
@@ -233,9 +235,6 @@ module _ (r : Records) (n : Numbered r) (next prev out lives : List ℕ) (limit 
     numbered = n;
     nodes = h.nodes;
     linked = subst (λ (u : List ℕ). Linked r.owners u next prev) (sym none_used) h.linked;
-    places = refl;
-    room = omega arith;
-    level = level;
     ordered = record { room = length out / 16; list = []; holds = subst (Holds (length out / 16) []) (sym begins) (begun (length out / 16)) };
     some = omega arith;
     bounded = omega arith;
@@ -245,6 +244,6 @@ module _ (r : Records) (n : Numbered r) (next prev out lives : List ℕ) (limit 
   unfolding address_of octets_of blank
   nothing_yet = refl
 
-  pub state_first : (x : ℕ) (m' : Memory) → Done first m' (search_of r x 128 (address_of 0 0) max_ttl first)
+  pub state_first : (x : ℕ) (m' : Memory) → Leaves first m' (search_of r x 128 (address_of 0 0) max_ttl first)
       → state_of m' ≡ searched (graph_of r) (blank (length r.owners)) x 128 (blank 16) max_ttl (limit + 1, start (length out / 16))
   state_first x m' d = d.state ∙ λ i. searched (graph_of r) (none_used i) x 128 (nothing_yet i) max_ttl (limit + 1, begins i)

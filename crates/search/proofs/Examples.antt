@@ -1,9 +1,9 @@
 -- 01's examples of lookup, with numbers for names, by computation: the answer, the output, the lifetimes, and the state that a search comes to.
-use Prim.Native.Nat.{ℕ, ◌+◌, ◌-◌, ◌*◌, ◌/◌}
+use Prim.Native.Nat.{ℕ, ◌+◌, ◌*◌, ◌/◌}
 use mathlib.Core.Path.{◌≡◌, refl}
 use mathlib.Core.Bool.{Bool, true, false}
 use mathlib.Core.List.{List, [], ◌∷◌, ◌++◌, map}
-use lib.ListN.{length, get_or, drop}
+use lib.ListN.{get_or, drop}
 use Rattle.octets.specs.declared.Answer.{Answer}
 use Rattle.octets.specs.Octets.{blank, same_by, flat}
 use Rattle.bits.specs.Bits.{unpack, pack, pack_from, bits_of}
@@ -20,7 +20,8 @@ use Rattle.chains.specs.Spelling.{spell}
 use Rattle.chains.specs.Lifetimes.{least_ttl, lifetime_in, lifetime_of}
 use Rattle.rows.specs.Halves.{address_of}
 use Rattle.rows.specs.Rows.{seek, put_at, lowered, keep_at, keep_in}
-use Rattle.search.specs.Search.{max_records, head_of, target_in, length_in, ttl_in, Records, records, graph_of, State, visit, run, searched, found_of, written_of, lasting_of}
+use Rattle.search.specs.declared.inside.Fields.{Fields}
+use Rattle.search.specs.Search.{Records, records, graph_of, State, visit, run, searched, found_of, written_of, lasting_of}
 use Rattle.search.specs.Answers.{number_of}
 use Rattle.search.proofs.AnswerLaws.{start}
 
@@ -33,19 +34,15 @@ site : ℕ → ℕ → ℕ
 site s t = 0x20010db800000000 + s * 0x10000 + t
 
 -- records by their owners, targets, prefix lengths, halves of addresses and TTLs
-heads : List ℕ → List ℕ → List ℕ → List ℕ
-unfolding head_of
-heads [] lengths ttls = []
-heads (t ∷ targets) lengths ttls = head_of t (get_or lengths 0 0) (get_or ttls 0 0) ∷ heads targets (drop 1 lengths) (drop 1 ttls)
-
--- a block of the fields: zeros up to the room for all records
-block : List ℕ → List ℕ
-unfolding blank
-block l = l ++ blank (max_records - length l)
+fields : List ℕ → List ℕ → List ℕ → List ℕ → List ℕ → List Fields
+fields [] lengths highs lows ttls = []
+fields (t ∷ targets) lengths highs lows ttls =
+    record { address = record { high = get_or highs 0 0; low = get_or lows 0 0 }; ttl = get_or ttls 0 0; target = t; length = get_or lengths 0 0 }
+    ∷ fields targets (drop 1 lengths) (drop 1 highs) (drop 1 lows) (drop 1 ttls)
 
 made : List ℕ → List ℕ → List ℕ → List ℕ → List ℕ → List ℕ → Records
-unfolding heads block
-made owners targets lengths highs lows ttls = records owners (block (heads targets lengths ttls) ++ block highs ++ lows)
+unfolding fields
+made owners targets lengths highs lows ttls = records owners (fields targets lengths highs lows ttls)
 
 -- a name asked with a limit and an output, and what comes back: the answer, the output, the lifetimes, and the figures of the search
 record Case : Type 0 where
@@ -67,7 +64,7 @@ record Outcome : Type 0 where
   full : Bool
 
 given : Case → Outcome
-unfolding target_in length_in ttl_in number_of answer_by out_by lifetime_of lifetime_in least_ttl same_by flat searched run visit keep_in keep_at seek put_at lowered chains_of chains_from paths extend up_to free blank work_of addresses_of gather insert order_of last_length spell join_of spelt spelt_bit bit_at bits unpack pack address_of octets_of
+unfolding number_of answer_by out_by lifetime_of lifetime_in least_ttl same_by flat searched run visit keep_in keep_at seek put_at lowered chains_of chains_from paths extend up_to free blank work_of addresses_of gather insert order_of last_length spell join_of spelt spelt_bit bit_at bits unpack pack address_of octets_of
 given c =
     let g = graph_of c.table in
     let s : State = searched g (blank g.size) c.name 128 (blank 16) max_ttl (c.limit + 1, start (c.size / 16)) in

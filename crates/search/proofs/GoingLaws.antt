@@ -1,5 +1,5 @@
 -- A search that follows the links: it passes over nothing that fits, and comes to the end of its name's list with the state that is expected.
-use Prim.Native.Nat.{ℕ, zero, suc, ◌+◌, ◌-◌, ◌*◌, ◌≤◌, ◌<◌, min}
+use Prim.Native.Nat.{ℕ, zero, suc, ◌+◌, ◌-◌, ◌≤◌, ◌<◌, min}
 use mathlib.Core.Path.{◌≡◌, refl, sym, ap, subst, ◌∙◌}
 use mathlib.Core.Bool.{Bool, true, false, ◌&&◌}
 use mathlib.Core.List.{List}
@@ -11,9 +11,10 @@ use borrow.Author.Tests.{eq-eqb, eqb-true, leb-true, le-leb, lt-leb}
 use Rattle.octets.proofs.BoolLaws.{clash}
 use Rattle.chains.specs.Listing.{fits}
 use Rattle.chains.proofs.ListingLaws.{fits_is, is_fits}
-use Rattle.rows.specs.Rows.{max_figures, Ordered}
+use Rattle.rows.specs.Rows.{Kept, Ordered}
 use Rattle.search.specs.Search.{Records, length_of, graph_of, State, stepped}
-use Rattle.search.specs.Links.{max_names, lists, First, Linked, Memory, memory, state_of, unused_of, search_of, step_of, Fit, Ready, Done}
+use Rattle.search.specs.Links.{max_names, lists, First, Linked}
+use Rattle.search.specs.Memory.{Memory, memory, state_of, unused_of, search_of, step_of, Fit, Ready, Leaves}
 use Rattle.rows.proofs.HalvesLaws.{address_length}
 use Rattle.rows.proofs.KeepingLaws.{keep_ordered}
 use Rattle.search.proofs.NodeLaws.{below?}
@@ -21,11 +22,8 @@ use Rattle.search.proofs.LinkLaws.{lists_yes, lists_owner, lists_free}
 use Rattle.search.proofs.SearchLaws.{searched_to, to_none, to_all, to_keeps, to_skip, to_step, to_end}
 
 -- what is equal part by part
-pub memory_eq : {n n' p p' o o' l l' f f' : List ℕ} {w w' : ℕ} → n' ≡ n → p' ≡ p → o' ≡ o → l' ≡ l → f' ≡ f → w' ≡ w → memory n' p' o' l' f' w' ≡ memory n p o l f w
-memory_eq en ep eo el ef ew = λ i. memory (en i) (ep i) (eo i) (el i) (ef i) (ew i)
-
-pub done_as : (m m' m'' : Memory) (s : State) → m'' ≡ m' → Done m m' s → Done m m'' s
-done_as m m' m'' s e d = subst (λ (v : Memory). Done m v s) (sym e) d
+pub memory_eq : {n n' p p' : List ℕ} {k k' : Kept} {w w' : ℕ} → n' ≡ n → p' ≡ p → k' ≡ k → w' ≡ w → memory n' p' k' w' ≡ memory n p k w
+memory_eq en ep ek ew = λ i. memory (en i) (ep i) (ek i) (ew i)
 
 -- ---- what is in a list fits unless it is too long, and nothing else does
 module _ (r : Records) (u : List ℕ) (x b m : ℕ) where
@@ -109,10 +107,6 @@ module _ (q : Sought) where
     pub next : m'.next ≡ m.next
     pub prev : m'.prev ≡ m.prev
     pub state : state_of m' ≡ to (min i n)
-    pub places : length m'.figures ≡ max_figures
-    pub room : get_or m'.figures 0 0 * 16 ≤ length m.out
-    pub out : length m'.out ≡ length m.out
-    pub lives : length m'.lives ≡ length m.lives
     pub listed : i < n → lists r.owners u x i ≡ true
 
   module _ (f : Fit r m b) where
@@ -123,10 +117,6 @@ module _ (q : Sought) where
           next = refl;
           prev = refl;
           state = to_none (graph_of r) u x b a c (state_of m) ∙ sym (pass_to 0 (min i n) (omega arith) (λ w p q. h.none w p (omega arith) (omega arith)));
-          places = f.places;
-          room = f.room;
-          out = refl;
-          lives = refl;
           listed = λ o. (h.here o).1;
         }
 
@@ -144,19 +134,14 @@ module _ (q : Sought) where
           below? (get_or m.next i 0) n (λ o. let q = (follows.here o).0 in omega arith) (λ o. omega arith)
 
       -- on from i, where what the records up to i give is known
-      going : (m'' : Memory) (j : ℕ) → m''.next ≡ m.next → m''.prev ≡ m.prev → state_of m'' ≡ to (suc i) → length m''.figures ≡ max_figures
-          → get_or m''.figures 0 0 * 16 ≤ length m.out → length m''.out ≡ length m.out → length m''.lives ≡ length m.lives → j ≡ get_or m''.next i 0 → Going m'' j
-      going m'' j en ep es t o lo ll ej =
+      going : (m'' : Memory) (j : ℕ) → m''.next ≡ m.next → m''.prev ≡ m.prev → state_of m'' ≡ to (suc i) → j ≡ get_or m''.next i 0 → Going m'' j
+      going m'' j en ep es ej =
           let h = subst (First (lists r.owners u x) n (n + x) (suc i)) (sym (ej ∙ ap (λ (w : List ℕ). get_or w i 0) en)) follows in
           let s : suc i ≤ min j n = below? j n (λ o. let z = (h.here o).0 in omega arith) (λ o. omega arith) in
           record {
             next = en;
             prev = ep;
             state = es ∙ sym (pass_to (suc i) (min j n) s (λ w p q. h.none w p (omega arith) (omega arith)));
-            places = t;
-            room = o;
-            out = lo;
-            lives = ll;
             listed = λ o. (h.here o).1;
           }
 
@@ -166,11 +151,11 @@ module _ (q : Sought) where
       -- a record that is too long is passed over
       pub going_skip : (j : ℕ) → b < length_of r i → j ≡ get_or m'.next i 0 → Going m' j
       going_skip j l ej =
-          going m' j v.next v.prev (at_i ∙ sym (to_skip (graph_of r) u x b a c (state_of m) i (long_unfit r u x b i (lt-leb (length_of r i) b l)))) v.places v.room v.out v.lives ej
+          going m' j v.next v.prev (at_i ∙ sym (to_skip (graph_of r) u x b a c (state_of m) i (long_unfit r u x b i (lt-leb (length_of r i) b l)))) ej
 
       -- the links are as they were
-      same_links : ◌≡◌ {A = Memory} (memory m'.next m'.prev m.out m.lives m.figures 0) (memory m.next m.prev m.out m.lives m.figures 0)
-      same_links = memory_eq v.next v.prev refl refl refl refl
+      same_links : ◌≡◌ {A = Memory} (memory m'.next m'.prev m.kept 0) (memory m.next m.prev m.kept 0)
+      same_links = memory_eq v.next v.prev refl refl
 
       pub same_unused : unused_of r m' ≡ u
       same_unused = ap (unused_of r) same_links
@@ -180,9 +165,6 @@ module _ (q : Sought) where
         numbered = f.numbered;
         nodes = ap length v.next ∙ f.nodes;
         linked = subst (λ (w : Memory). Linked r.owners (unused_of r w) w.next w.prev) (sym same_links) f.linked;
-        places = v.places;
-        room = subst (λ (w : ℕ). get_or m'.figures 0 0 * 16 ≤ w) (sym v.out) v.room;
-        level = ap (λ (w : ℕ). w * 16) v.lives ∙ f.level ∙ sym v.out;
         ordered = subst (λ (s : State). Ordered s.1) (sym at_i)
             (to_keeps (graph_of r) u x b a c (state_of m) Ordered (λ j. address_length _ _) keep_ordered w f.ordered i);
         some = f.some;
@@ -193,31 +175,26 @@ module _ (q : Sought) where
       pub going_ready : length a ≡ 16 → length_of r i ≤ b → 0 < m'.left → Ready r m' b i
       going_ready w l h = record { fit = fit_here w; there = li; unused = ap (λ (w : List ℕ). get_or w i 0) same_unused ∙ unmarked; short = l; counts = h }
 
-      pub going_step : (m'' : Memory) (j : ℕ) → length_of r i ≤ b → Done m' m'' (step_of r i b a c m') → length m''.out ≡ length m'.out → length m''.lives ≡ length m'.lives
-          → j ≡ get_or m''.next i 0 → Going m'' j
-      going_step m'' j l d lo ll ej =
+      pub going_step : (m'' : Memory) (j : ℕ) → length_of r i ≤ b → Leaves m' m'' (step_of r i b a c m') → j ≡ get_or m''.next i 0 → Going m'' j
+      going_step m'' j l d ej =
           going m'' j (d.next ∙ v.next) (d.prev ∙ v.prev)
           (d.state ∙ ap (λ (w : List ℕ). stepped (graph_of r) w i b a c (state_of m')) same_unused ∙ ap (stepped (graph_of r) u i b a c) at_i
           ∙ sym (to_step (graph_of r) u x b a c (state_of m) i (listed_fits r u x b i (v.listed li) (le-leb (length_of r i) b l))))
-          d.places (subst (λ (w : ℕ). get_or m''.figures 0 0 * 16 ≤ w) v.out d.room) (lo ∙ v.out) (ll ∙ v.lives) ej
+          ej
 
       -- where no chain may be counted any more the rest changes nothing
-      pub going_over : m'.left ≡ 0 → Done m m' (search_of r x b a c m)
+      pub going_over : m'.left ≡ 0 → Leaves m m' (search_of r x b a c m)
       going_over h = record {
         next = v.next;
         prev = v.prev;
         state = at_i ∙ sym (to_end (graph_of r) u x b a c (state_of m) i (omega arith) (sym (ap (λ (w : State). w.0) at_i) ∙ h));
-        places = v.places;
-        room = v.room;
       }
 
-    pub going_end : {m' : Memory} {i : ℕ} → Going m' i → n ≤ i → Done m m' (search_of r x b a c m)
+    pub going_end : {m' : Memory} {i : ℕ} → Going m' i → n ≤ i → Leaves m m' (search_of r x b a c m)
     going_end {i = i} v l =
         let e : min i n ≡ n = omega arith in
         record {
           next = v.next;
           prev = v.prev;
           state = v.state ∙ ap to e ∙ to_all (graph_of r) u x b a c (state_of m);
-          places = v.places;
-          room = v.room;
         }

@@ -1,4 +1,3 @@
-pub mod HeadLaws
 pub mod NodeLaws
 pub mod LinkLaws
 pub mod BuildLaws

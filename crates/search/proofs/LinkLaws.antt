@@ -232,6 +232,16 @@ module _ (owners next prev : List ℕ) (k : Linked owners (marks_of (length owne
   later : i < q₁
   later = let f = k.on i li ui in below? q₁ n₁ (λ o. (f.here o).0) (λ o. omega arith)
 
+  earlier : p₁ ≡ i → ⊥
+  earlier e = let f = k.back i li ui in below? p₁ n₁ (λ o. omega (arith, (f.here o).0)) (λ o. omega arith)
+
+  -- i keeps its own neighbours
+  pub prev_own : get_or (set prev q₁ p₁) i 0 ≡ p₁
+  prev_own = get_or-set_other prev q₁ i p₁ 0 (λ z. omega (arith, later))
+
+  pub next_own : get_or (set next p₁ q₁) i 0 ≡ q₁
+  next_own = get_or-set_other next p₁ i q₁ 0 (λ z. earlier (sym z))
+
   next_p : get_or (set next p₁ q₁) p₁ 0 ≡ q₁
   next_p = get_or-set_same next p₁ q₁ 0 (prev_node owners u₁ next prev k i li ui)
 

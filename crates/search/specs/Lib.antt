@@ -1,3 +1,4 @@
 pub mod Search
 pub mod Links
+pub mod Memory
 pub mod Answers

@@ -1,11 +1,10 @@
 -- The unused records as one circular list a name. Node j, below the number n of records, is the record j; node n + x is both ends of the list of x.
 -- The code's own: nothing that a reader must believe.
-use Rattle.std.specs.Prelude.{ℕ, zero, suc, ◌+◌, ◌*◌, ◌≤◌, ◌<◌, ◌≡◌, Bool, true, false, ◌&&◌, List, [], ◌∷◌, eqb, length, get_or}
+use Rattle.std.specs.Prelude.{ℕ, zero, suc, ◌+◌, ◌≤◌, ◌<◌, ◌≡◌, Bool, true, false, ◌&&◌, List, [], ◌∷◌, eqb, length, get_or}
 use Rattle.octets.specs.Octets.{blank}
 use Rattle.chains.specs.Lists.{pick}
 use Rattle.chains.specs.Graph.{max_ttl}
-use Rattle.rows.specs.Rows.{max_figures, kept, Ordered}
-use Rattle.search.specs.Search.{max_records, Records, target_of, length_of, ttl_of, graph_of, State, searched, stepped}
+use Rattle.search.specs.Search.{max_records, Records, target_of, length_of, ttl_of}
 
 -- how many names and nodes there may be
 abbrev pub max_names : ℕ
@@ -22,6 +21,7 @@ pub record Owned (owners : List ℕ) : Type 0 where
 -- what a search asks of the records: targets by number too, prefix lengths up to 128, and TTLs up to the greatest
 pub record Numbered (r : Records) : Type 0 where
   pub owned : Owned r.owners
+  pub level : length r.fields ≡ length r.owners
   pub target : (j : ℕ) → j < length r.owners → 0 < length_of r j → target_of r j < max_names
   pub short : (j : ℕ) → j < length r.owners → length_of r j ≤ 128
   pub lived : (j : ℕ) → j < length r.owners → ttl_of r j ≤ max_ttl
@@ -71,56 +71,3 @@ pub record Alone (l : List ℕ) (n : ℕ) : Type 0 where
 pub record Fresh (owners next prev : List ℕ) : Type 0 where
   pub linked : Linked owners (blank (length owners)) next prev
   pub nodes : length next ≡ max_nodes
-
--- what a search is lent and changes, and how many chains may still be counted
-pub record Memory : Type 0 where
-  pub next : List ℕ
-  pub prev : List ℕ
-  pub out : List ℕ
-  pub lives : List ℕ
-  pub figures : List ℕ
-  pub left : ℕ
-
-abbrev pub memory : List ℕ → List ℕ → List ℕ → List ℕ → List ℕ → ℕ → Memory
-memory next prev out lives figures left = record { next = next; prev = prev; out = out; lives = lives; figures = figures; left = left }
-
-abbrev pub state_of : Memory → State
-state_of m = (m.left, kept m.out m.lives m.figures)
-
-abbrev pub unused_of : Records → Memory → List ℕ
-unused_of r m = marks_of (length r.owners) m.next m.prev
-
--- the state after the search, and after the step
-abbrev pub search_of : Records → ℕ → ℕ → List ℕ → ℕ → Memory → State
-search_of r x b a c m = searched (graph_of r) (unused_of r m) x b a c (state_of m)
-
-abbrev pub step_of : Records → ℕ → ℕ → List ℕ → ℕ → Memory → State
-step_of r i b a c m = stepped (graph_of r) (unused_of r m) i b a c (state_of m)
-
--- what a search works on
-pub record Fit (r : Records) (m : Memory) (bound : ℕ) : Type 0 where
-  pub numbered : Numbered r
-  pub nodes : length m.next ≡ max_nodes
-  pub linked : Linked r.owners (unused_of r m) m.next m.prev
-  pub places : length m.figures ≡ max_figures
-  pub room : get_or m.figures 0 0 * 16 ≤ length m.out
-  pub level : length m.lives * 16 ≡ length m.out
-  pub ordered : Ordered (kept m.out m.lives m.figures)
-  pub some : 0 < bound
-  pub bounded : bound ≤ 128
-
--- what a step into the record i works on: it is unused and no longer than its referrer, and one more chain may be counted
-pub record Ready (r : Records) (m : Memory) (bound i : ℕ) : Type 0 where
-  pub fit : Fit r m bound
-  pub there : i < length r.owners
-  pub unused : get_or (unused_of r m) i 0 ≡ 0
-  pub short : length_of r i ≤ bound
-  pub counts : 0 < m.left
-
--- what either leaves: the links as they were, and the state that is expected
-pub record Done (m m' : Memory) (s : State) : Type 0 where
-  pub next : m'.next ≡ m.next
-  pub prev : m'.prev ≡ m.prev
-  pub state : state_of m' ≡ s
-  pub places : length m'.figures ≡ max_figures
-  pub room : get_or m'.figures 0 0 * 16 ≤ length m.out

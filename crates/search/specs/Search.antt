@@ -1,55 +1,53 @@
 -- What a search does: it visits the chains of a name in their order, counts them, and keeps what the complete ones spell (01, Chains), with
 -- the least TTL of their records (T-01). The code's own: nothing that a reader must believe.
-use Rattle.std.specs.Prelude.{ℕ, ◌+◌, ◌-◌, ◌*◌, ◌/◌, ◌%◌, List, [], ◌∷◌, eqb, length, get_or, set}
+use Rattle.std.specs.Prelude.{ℕ, ◌-◌, ◌/◌, List, [], ◌∷◌, eqb, length, get_or, set}
 use Rattle.chains.specs.Lists.{pick}
 use Rattle.chains.specs.Graph.{Graph}
 use Rattle.chains.specs.Chain.{last_length}
 use Rattle.chains.specs.Listing.{free, extend, paths, chains_from}
 use Rattle.chains.specs.Spelling.{spell}
 use Rattle.chains.specs.Lifetimes.{least_ttl}
-use Rattle.rows.specs.Halves.{address_of}
+use Rattle.rows.specs.Halves.{whole}
+use Rattle.search.specs.declared.inside.Fields.{Fields}
+use Rattle.search.specs.declared.inside.Records.{Records as Given}
 use Rattle.rows.specs.Rows.{Kept, keep_in}
 use Rattle.octets.specs.declared.Answer.{Answer}
 use Rattle.search.specs.Answers.{number_of, answer_of, output_of, lives_of}
-
--- a record's target, prefix length and TTL in one number, its head, and each of them from it
-unfoldable pub head_of : ℕ → ℕ → ℕ → ℕ
-head_of target length ttl = target + length * 65536 + ttl * 16777216
-
-unfoldable pub target_in : ℕ → ℕ
-target_in head = head % 65536
-
-unfoldable pub length_in : ℕ → ℕ
-length_in head = head / 65536 % 256
-
-unfoldable pub ttl_in : ℕ → ℕ
-ttl_in head = head / 16777216 % 4294967296
 
 -- how many records there may be
 abbrev pub max_records : ℕ
 max_records = 1024
 
--- the records as arrays have them, with numbers for names: the owner of each, and their fields, all heads first, then the first halves of all
--- addresses, then the last ones, each with room for all records
+-- the records, with numbers for names: the owner of each, and its fields
 pub record Records : Type 0 where
   pub owners : List ℕ
-  pub fields : List ℕ
+  pub fields : List Fields
 
-abbrev pub records : List ℕ → List ℕ → Records
+abbrev pub records : List ℕ → List Fields → Records
 records owners fields = record { owners = owners; fields = fields }
 
+-- as the code has them
+abbrev pub records_of : Given → Records
+records_of r = records r.owners.now r.fields.now
+
+abbrev pub no_fields : Fields
+no_fields = record { address = record { high = 0; low = 0 }; ttl = 0; target = 0; length = 0 }
+
 -- of the record at i
+abbrev pub fields_at : Records → ℕ → Fields
+fields_at r i = get_or r.fields i no_fields
+
 abbrev pub target_of : Records → ℕ → ℕ
-target_of r i = target_in (get_or r.fields i 0)
+target_of r i = (fields_at r i).target
 
 abbrev pub length_of : Records → ℕ → ℕ
-length_of r i = length_in (get_or r.fields i 0)
+length_of r i = (fields_at r i).length
 
 abbrev pub ttl_of : Records → ℕ → ℕ
-ttl_of r i = ttl_in (get_or r.fields i 0)
+ttl_of r i = (fields_at r i).ttl
 
-abbrev pub address_in : List ℕ → ℕ → List ℕ
-address_in fields i = address_of (get_or fields (max_records + i) 0) (get_or fields (2 * max_records + i) 0)
+abbrev pub address_at : Records → ℕ → List ℕ
+address_at r i = whole (fields_at r i).address
 
 -- as a graph
 abbrev pub graph_of : Records → Graph ℕ
@@ -58,7 +56,7 @@ graph_of r = record {
   owns = λ i x. eqb (get_or r.owners i 0) x;
   target = target_of r;
   len = length_of r;
-  addr = address_in r.fields;
+  addr = address_at r;
   ttl = ttl_of r;
 }
 

@@ -2,14 +2,16 @@
 ghost use Rattle.std.specs.Prelude.{◌≡◌, ◌+◌, ◌*◌, ◌/◌, ◌%◌, ◌^◌, ◌≤◌, ◌<◌, min, length, get_or};
 ghost use Rattle.octets.specs.Octets.{blank};
 ghost use Rattle.octets.specs.Answers.{refusal};
+ghost use Rattle.octets.specs.Refusals.{code_of, answered};
 ghost use Rattle.address.specs.Address.{join_of};
-ghost use Rattle.rows.specs.Halves.{address_of};
-ghost use Rattle.rows.specs.Rows.{max_figures, kept, keep_in, Ordered};
-ghost use Rattle.search.specs.Search.{max_records, head_of, target_in, length_in, ttl_in, records, address_in, graph_of, found_of, written_of, lasting_of};
-ghost use Rattle.search.specs.Links.{max_names, Numbered, memory, search_of, step_of, Fit, Ready, Done};
+ghost use Rattle.rows.specs.Halves.{whole};
+ghost use Rattle.search.specs.Search.{max_records, records_of, graph_of, found_of, written_of, lasting_of};
+ghost use Rattle.search.specs.Links.{max_names, Numbered};
+ghost use Rattle.search.specs.Memory.{memory_of, search_of, step_of, Borrows, Fit, Ready, Leaves};
 
-use crate::links;
-use rows::inside::FIGURES;
+use crate::links::Lists;
+use octets::{Done, Refusal};
+use rows::inside::{Halves, Rows};
 
 // How many records and names there may be, and the nodes of their lists (specs/Links).
 pub const RECORDS: usize = 1024;
@@ -18,21 +20,38 @@ pub const NAMES: usize = 2304;
 
 pub const NODES: usize = RECORDS + NAMES;
 
-// The fields of the records, all in one array (specs/Search): the heads, then from these places on the first and the last halves of addresses.
-pub const FIELDS: usize = 3 * RECORDS;
-
-pub const HIGHS: usize = RECORDS;
-
-pub const LOWS: usize = 2 * RECORDS;
-
-// The greatest TTL: a chain of no records has it.
-const MAX_TTL: u32 = 2147483647;
-
-// An address by its first and its last 64 bits.
+// What a search reads of a record: its target by a number for the name, its prefix length, its address and its TTL.
 #[derive(Clone, Copy)]
-struct Halves {
-    high: u64,
-    low: u64,
+pub struct Fields {
+    pub address: Halves,
+    pub ttl: u32,
+    pub target: u16,
+    pub length: u8,
+}
+
+impl Fields {
+    // Of no record.
+    pub const NONE: Fields = Fields {
+        address: Halves { high: 0, low: 0 },
+        ttl: 0,
+        target: 0,
+        length: 0,
+    };
+}
+
+// The records of a table: the owner of each, by a number for its name, and what a search reads of it.
+#[derive(Clone, Copy)]
+pub struct Records<'a> {
+    pub owners: &'a [u16],
+    pub fields: &'a [Fields],
+}
+
+// What a chain has spelt so far: the bits of an address from `bound` on, and the least TTL of its records.
+#[derive(Clone, Copy)]
+struct Chain {
+    address: Halves,
+    ttl: u32,
+    bound: u8,
 }
 
 // The bits of `high` above k, then those of `low`.
@@ -43,229 +62,148 @@ fn mixed(high: u64, low: u64, k: u8) -> u64
     ((high >> k) << k) + (low - ((low >> k) << k))
 }
 
-// The record's bits before `bound`, then those of the address so far.
-fn joined(fields: &[u64; FIELDS], i: usize, high: u64, low: u64, bound: u8) -> Halves
-    requires i_lt_max_records { i < max_records }
-    requires bound_nonzero { (0 < bound) × (bound ≤ 128) }
-    ensures { address_of result.high result.low ≡ join_of (address_in fields.now i) (address_of high low) bound }
+// The first `bound` bits of one address, then those of another.
+fn joined(first: Halves, last: Halves, bound: u8) -> Halves
+    requires { (0 < bound) × (bound ≤ 128) }
+    ensures { whole result ≡ join_of (whole first) (whole last) bound }
 {
-    let h = fields[HIGHS + i];
     if bound <= 64 {
-        return Halves {
-            high: mixed(h, high, 64 - bound),
-            low,
-        };
-    }
-    Halves {
-        high: h,
-        low: mixed(fields[LOWS + i], low, 128 - bound),
-    }
-}
-
-// A record's target, prefix length and TTL in one number (specs/Search): a search reads them at once.
-pub fn head_of(target: u16, length: u8, ttl: u32) -> u64
-    ensures { result ≡ head_of target length ttl }
-{
-    target as u64 + length as u64 * 65536 + ttl as u64 * 16777216
-}
-
-// And each of them from it.
-fn target_in(head: u64) -> usize
-    ensures { result ≡ target_in head }
-{
-    (head % 65536) as usize
-}
-
-fn length_in(head: u64) -> u8
-    ensures { result ≡ length_in head }
-{
-    (head / 65536 % 256) as u8
-}
-
-fn ttl_in(head: u64) -> u32
-    ensures { result ≡ ttl_in head }
-{
-    (head / 16777216 % 4294967296) as u32
-}
-
-// Keeps what a chain spells that ends with the record i, with the least TTL of its records; nothing once there was no room.
-fn finish(
-    fields: &[u64; FIELDS],
-    i: usize,
-    bound: u8,
-    high: u64,
-    low: u64,
-    ttl: u32,
-    out: &mut [u8],
-    lives: &mut [u32],
-    figures: &mut [usize; FIGURES],
-)
-    requires i_lt_max_records { (i < max_records) × (0 < bound) × (bound ≤ 128) }
-    requires figures_len { (length figures.old ≡ max_figures) × (get_or figures.old 0 0 * 16 ≤ length out.old) × (length lives.old * 16 ≡ length out.old) × Ordered (kept out.old lives.old figures.old) }
-    ensures { (kept out.new lives.new figures.new
-        ≡ keep_in (join_of (address_in fields.now i) (address_of high low) bound) (min ttl (ttl_in (get_or fields.now i 0))) (kept out.old lives.old figures.old))
-        × (length figures.new ≡ max_figures) × (get_or figures.new 0 0 * 16 ≤ length out.old) }
-{
-    if rows::inside::is_full(figures) {
-        return;
-    }
-    let a = joined(fields, i, high, low, bound);
-    let h = a.high;
-    let l = a.low;
-    let t = octets::numbers::lesser(ttl, ttl_in(fields[i]));
-    rows::inside::keep(out, lives, figures, h, l, t);
-}
-
-// Into the record i, which is unused: it is out of its list while the search goes on from it. Of the chains that may still be counted, `left`,
-// it answers what is left.
-#[cycle(search_step)]
-fn step(
-    owners: &[u16],
-    fields: &[u64; FIELDS],
-    i: usize,
-    bound: u8,
-    high: u64,
-    low: u64,
-    ttl: u32,
-    next: &mut [u16; NODES],
-    prev: &mut [u16; NODES],
-    out: &mut [u8],
-    lives: &mut [u32],
-    figures: &mut [usize; FIGURES],
-    left: u64,
-) -> u64
-    requires { Ready (records owners.now fields.now) (memory next.old prev.old out.old lives.old figures.old left) bound i }
-    ensures { Done (memory next.old prev.old out.old lives.old figures.old left)
-        (memory next.new prev.new out.new lives.new figures.new result)
-        (step_of (records owners.now fields.now) i bound (address_of high low) ttl (memory next.old prev.old out.old lives.old figures.old left)) }
-{
-    let head = fields[i];
-    let length = length_in(head);
-    let rest = left - 1;
-    if length == 0 {
-        finish(fields, i, bound, high, low, ttl, out, lives, figures);
-        return rest;
-    }
-    let a = joined(fields, i, high, low, bound);
-    let h = a.high;
-    let l = a.low;
-    let t = octets::numbers::lesser(ttl, ttl_in(head));
-    let x = target_in(head);
-    let p = octets::numbers::wide(prev[i]);
-    let q = octets::numbers::wide(next[i]);
-    links::unlink(p, q, next, prev);
-    let mut r = rest;
-    let ends = owners.len() + x;
-    let first = octets::numbers::wide(next[ends]);
-    if first < owners.len() {
-        r = search(
-            owners, fields, x, first, length, h, l, t, next, prev, out, lives, figures, rest,
-        );
-    }
-    links::relink(i, p, q, next, prev);
-    r
-}
-
-// Over the unused records of the name x, from the first of them on; it answers how many chains are left to count, and ends where there are none.
-#[cycle(search_step)]
-fn search(
-    owners: &[u16],
-    fields: &[u64; FIELDS],
-    x: usize,
-    first: usize,
-    bound: u8,
-    high: u64,
-    low: u64,
-    ttl: u32,
-    next: &mut [u16; NODES],
-    prev: &mut [u16; NODES],
-    out: &mut [u8],
-    lives: &mut [u32],
-    figures: &mut [usize; FIGURES],
-    left: u64,
-) -> u64
-    requires fit { Fit (records owners.now fields.now) (memory next.old prev.old out.old lives.old figures.old left) bound }
-    requires x_lt_max_names { (x < max_names) × (first ≡ get_or next.old (length owners.now + x) 0) }
-    ensures { Done (memory next.old prev.old out.old lives.old figures.old left)
-        (memory next.new prev.new out.new lives.new figures.new result)
-        (search_of (records owners.now fields.now) x bound (address_of high low) ttl (memory next.old prev.old out.old lives.old figures.old left)) }
-{
-    let mut s = left;
-    let mut i = first;
-    while i < owners.len() {
-        if s == 0 {
-            return s;
+        Halves {
+            high: mixed(first.high, last.high, 64 - bound),
+            low: last.low,
         }
-        if length_in(fields[i]) <= bound {
-            s = step(
-                owners, fields, i, bound, high, low, ttl, next, prev, out, lives, figures, s,
-            );
+    } else {
+        Halves {
+            high: first.high,
+            low: mixed(first.low, last.low, 128 - bound),
         }
-        i = octets::numbers::wide(next[i]);
     }
-    s
 }
 
-// A refusal by its number, with zeros in both lists.
-fn refuse(number: u8, out: &mut [u8], lives: &mut [u32]) -> octets::Answer
-    ensures { (result ≡ refusal number) × (out.new ≡ blank (length out.old)) × (lives.new ≡ blank (length lives.old)) }
+impl Chain {
+    // Of no records: it has spelt nothing, and has the greatest TTL.
+    const NONE: Chain = Chain {
+        address: Halves { high: 0, low: 0 },
+        ttl: 2147483647,
+        bound: 128,
+    };
+
+    // With one more record.
+    fn with(self, fields: &Fields) -> Chain
+        requires { (0 < self.bound) × (self.bound ≤ 128) }
+        ensures address { whole result.address ≡ join_of (whole fields.now.address) (whole self.address) self.bound }
+        ensures ttl { result.ttl ≡ min self.ttl fields.now.ttl }
+        ensures bound { result.bound ≡ fields.now.length }
+    {
+        Chain {
+            address: joined(fields.address, self.address, self.bound),
+            ttl: self.ttl.min(fields.ttl),
+            bound: fields.length,
+        }
+    }
+}
+
+// A search on its way: the lists of unused records, the addresses found, and how many chains may still be counted.
+#[derive(Drop)]
+struct Search<'a, 'b, 'c> {
+    records: Records<'a>,
+    lists: &'b mut Lists,
+    rows: &'b mut Rows<'c>,
+    left: u64,
+}
+
+impl Search<'_, '_, '_> {
+    // Into the record i, which is unused: it is out of its list while the search goes on from it.
+    #[cycle(search_step)]
+    fn step(&mut self, i: usize, chain: Chain)
+        requires { Ready (records_of self.old.records) (memory_of self.old) chain.bound i }
+        ensures lent { Borrows self.old self.new }
+        ensures done { Leaves (memory_of self.old) (memory_of self.new)
+            (step_of (records_of self.old.records) i chain.bound (whole chain.address) chain.ttl (memory_of self.old)) }
+    {
+        let fields = &self.records.fields[i];
+        let longer = chain.with(fields);
+        self.left -= 1;
+        if fields.length == 0 {
+            if !self.rows.is_full() {
+                self.rows.keep(longer.address, longer.ttl);
+            }
+        } else {
+            let target = usize::from(fields.target);
+            self.lists.unlink(i);
+            self.over(target, longer);
+            self.lists.relink(i);
+        }
+    }
+
+    // Over the unused records of the name x; it ends where no chain may be counted any more.
+    #[cycle(search_step)]
+    fn over(&mut self, x: usize, chain: Chain)
+        requires { Fit (records_of self.old.records) (memory_of self.old) chain.bound × (x < max_names) }
+        ensures lent { Borrows self.old self.new }
+        ensures done { Leaves (memory_of self.old) (memory_of self.new)
+            (search_of (records_of self.old.records) x chain.bound (whole chain.address) chain.ttl (memory_of self.old)) }
+    {
+        let n = self.records.owners.len();
+        let mut i = self.lists.after(n + x);
+        while i < n && self.left != 0 {
+            if self.records.fields[i].length <= chain.bound {
+                self.step(i, chain);
+            }
+            i = self.lists.after(i);
+        }
+    }
+}
+
+// A refusal, with zeros in both lists.
+fn refuse(reason: Refusal, out: &mut [u8], lives: &mut [u32]) -> Result<Done, Refusal>
+    ensures { (answered result ≡ refusal (code_of reason)) × (out.new ≡ blank (length out.old)) × (lives.new ≡ blank (length lives.old)) }
 {
     octets::clear(out);
     octets::numbers::clear(lives);
-    octets::refused(number)
+    Err(reason)
 }
 
-// The addresses of the name x and their lifetimes, or refusal 6 or 7, once the records and both lists are in order; they come as zeros.
+// The addresses of the name x and their lifetimes, or a refusal of more work than the limit or more addresses than room, once the records and
+// both lists are in order; they come as zeros.
 pub fn find(
-    owners: &[u16],
-    fields: &[u64; FIELDS],
+    records: Records,
     x: usize,
     limit: u32,
     out: &mut [u8],
     lives: &mut [u32],
-) -> octets::Answer
-    requires numbered { Numbered (records owners.now fields.now) × (x < max_names) }
+) -> Result<Done, Refusal>
+    requires numbered { Numbered (records_of records) × (x < max_names) }
     requires out_len { (length out.old % 16 ≡ 0) × (out.old ≡ blank (length out.old)) × (length lives.old * 16 ≡ length out.old) × (lives.old ≡ blank (length lives.old)) }
-    ensures value { result ≡ found_of (graph_of (records owners.now fields.now)) x limit (length out.old) }
-    ensures out_after { out.new ≡ written_of (graph_of (records owners.now fields.now)) x limit (length out.old) }
-    ensures lives_after { lives.new ≡ lasting_of (graph_of (records owners.now fields.now)) x limit (length out.old) }
+    ensures value { answered result ≡ found_of (graph_of (records_of records.entry)) x limit (length out.old) }
+    ensures out_after { out.new ≡ written_of (graph_of (records_of records.entry)) x limit (length out.old) }
+    ensures lives_after { lives.new ≡ lasting_of (graph_of (records_of records.entry)) x limit (length out.old) }
 {
-    let mut next = [0u16; NODES];
-    let mut prev = [0u16; NODES];
-    links::link(owners, &mut next, &mut prev);
-    let mut figures = [0usize; FIGURES];
-    let most = limit as u64 + 1;
-    let ends = owners.len() + x;
-    let first = octets::numbers::wide(next[ends]);
-    let left = search(
-        owners,
-        fields,
-        x,
-        first,
-        128,
-        0,
-        0,
-        MAX_TTL,
-        &mut next,
-        &mut prev,
-        out,
-        lives,
-        &mut figures,
-        most,
-    );
-    let count = figures[0];
-    let full = figures[1];
+    let most = u64::from(limit) + 1;
+    let mut lists = Lists {
+        next: [0; NODES],
+        prev: [0; NODES],
+    };
+    lists.link(records.owners);
+    let mut rows = Rows::new(out, lives);
+    let mut search = Search {
+        records,
+        lists: &mut lists,
+        rows: &mut rows,
+        left: most,
+    };
+    search.over(x, Chain::NONE);
+    let left = search.left;
+    let full = search.rows.is_full();
+    let count = search.rows.count();
     if left == 0 {
-        return refuse(6, out, lives);
+        return refuse(Refusal::Limit, out, lives);
     }
-    if full == 1 {
-        return refuse(7, out, lives);
+    if full {
+        return refuse(Refusal::Room, out, lives);
     }
-    let found = count as u32;
-    let spent = (most - left) as u32;
-    octets::Answer {
-        number: 0,
-        count: found,
-        work: spent,
-    }
+    Ok(Done {
+        count: count as u32,
+        work: (most - left) as u32,
+    })
 }

@@ -1,59 +1,73 @@
 // The unused records as one circular list a name (specs/Links).
-ghost use Rattle.std.specs.Prelude.{◌≡◌, ◌<◌, length, set};
+ghost use Rattle.std.specs.Prelude.{◌≡◌, ◌<◌, length, set, get_or};
 ghost use Rattle.search.specs.Links.{Owned, Fresh, Alone, max_nodes};
 
 use crate::inside::NODES;
 
+// The nodes: of each, the next one and the one before it.
+#[derive(Drop)]
+pub struct Lists {
+    pub next: [u16; NODES],
+    pub prev: [u16; NODES],
+}
+
 // Each place its own number.
 fn alone(a: &mut [u16; NODES])
-    requires { length a.old ≡ max_nodes }
-    ensures { (length a.new ≡ max_nodes) × Alone a.new max_nodes }
+    ensures { Alone a.new max_nodes }
 {
-    let mut i: usize = 0;
-    while i < NODES {
-        a[i] = i as u16;
-        i += 1;
+    for (i, x) in a.iter_mut().enumerate() {
+        *x = i as u16;
     }
 }
 
-// Every record at the end of its owner's list, in order.
-pub fn link(owners: &[u16], next: &mut [u16; NODES], prev: &mut [u16; NODES])
-    requires owned { Owned owners.now }
-    requires next_len { (length next.old ≡ max_nodes) × (length prev.old ≡ max_nodes) }
-    ensures { Fresh owners.now next.new prev.new }
-{
-    alone(next);
-    alone(prev);
-    let n = owners.len();
-    let mut i: usize = 0;
-    while i < n {
-        let ends = n + octets::numbers::wide(owners[i]);
-        let last = prev[ends];
-        let before = octets::numbers::wide(last);
-        let node = i as u16;
-        next[before] = node;
-        next[i] = ends as u16;
-        prev[ends] = node;
-        prev[i] = last;
-        i += 1;
+impl Lists {
+    // The node after one.
+    pub fn after(&self, node: usize) -> usize
+        requires { node < max_nodes }
+        ensures { result ≡ get_or self.now.next node 0 }
+    {
+        usize::from(self.next[node])
     }
-}
 
-// Takes out what stands between two nodes.
-pub fn unlink(p: usize, q: usize, next: &mut [u16; NODES], prev: &mut [u16; NODES])
-    requires { (length next.old ≡ max_nodes) × (length prev.old ≡ max_nodes) × (p < max_nodes) × (q < max_nodes) }
-    ensures { (next.new ≡ set next.old p q) × (prev.new ≡ set prev.old q p) }
-{
-    next[p] = q as u16;
-    prev[q] = p as u16;
-}
+    // Every record at the end of its owner's list, in order.
+    pub fn link(&mut self, owners: &[u16])
+        requires { Owned owners.now }
+        ensures { Fresh owners.now self.new.next self.new.prev }
+    {
+        alone(&mut self.next);
+        alone(&mut self.prev);
+        let n = owners.len();
+        for (i, owner) in owners.iter().enumerate() {
+            let ends = n + usize::from(*owner);
+            let last = self.prev[ends];
+            self.next[usize::from(last)] = i as u16;
+            self.next[i] = ends as u16;
+            self.prev[ends] = i as u16;
+            self.prev[i] = last;
+        }
+    }
 
-// Puts a record back between two nodes.
-pub fn relink(i: usize, p: usize, q: usize, next: &mut [u16; NODES], prev: &mut [u16; NODES])
-    requires { (length next.old ≡ max_nodes) × (length prev.old ≡ max_nodes) × (p < max_nodes) × (q < max_nodes) × (i < max_nodes) }
-    ensures { (next.new ≡ set next.old p i) × (prev.new ≡ set prev.old q i) }
-{
-    let node = i as u16;
-    next[p] = node;
-    prev[q] = node;
+    // Takes a node out from between its neighbours.
+    pub fn unlink(&mut self, i: usize)
+        requires { (i < max_nodes) × (get_or self.old.prev i 0 < max_nodes) × (get_or self.old.next i 0 < max_nodes) }
+        ensures next { self.new.next ≡ set self.old.next (get_or self.old.prev i 0) (get_or self.old.next i 0) }
+        ensures prev { self.new.prev ≡ set self.old.prev (get_or self.old.next i 0) (get_or self.old.prev i 0) }
+    {
+        let p = self.prev[i];
+        let q = self.next[i];
+        self.next[usize::from(p)] = q;
+        self.prev[usize::from(q)] = p;
+    }
+
+    // Puts a node back, whose neighbours it still has.
+    pub fn relink(&mut self, i: usize)
+        requires { (i < max_nodes) × (get_or self.old.prev i 0 < max_nodes) × (get_or self.old.next i 0 < max_nodes) }
+        ensures next { self.new.next ≡ set self.old.next (get_or self.old.prev i 0) i }
+        ensures prev { self.new.prev ≡ set self.old.prev (get_or self.old.next i 0) i }
+    {
+        let p = usize::from(self.prev[i]);
+        let q = usize::from(self.next[i]);
+        self.next[p] = i as u16;
+        self.prev[q] = i as u16;
+    }
 }
