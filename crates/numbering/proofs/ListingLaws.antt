@@ -1,5 +1,5 @@
 -- Laws of the list of names in its buckets: what a search along a bucket finds, and how a name is added.
-use Prim.Native.Nat.{ℕ, ◌+◌, ◌-◌, ◌*◌, ◌%◌, ◌≤◌, ◌<◌}
+use Prim.Native.Nat.{ℕ, ◌+◌, ◌-◌, ◌%◌, ◌≤◌, ◌<◌}
 use mathlib.Core.Path.{◌≡◌, refl, ap, sym, subst, ◌∙◌}
 use mathlib.Core.Bool.{Bool, true, false}
 use mathlib.Core.List.{List, [], ◌∷◌, ◌++◌}
@@ -15,16 +15,13 @@ use Rattle.names.specs.Standard.{same_name}
 use Rattle.plan.proofs.MarkLaws.{same_mark}
 use Rattle.plan.proofs.AlikeLaws.{alike_same}
 use Rattle.plan.specs.Layout.{name_in, owner_slot, record_at, owner_at}
-use Rattle.plan.specs.Check.{targetless}
 use Rattle.plan.specs.Good.{Holds}
 use Rattle.plan.specs.Marks.{alike_of}
 use Rattle.chains.proofs.ListLaws.{both_true}
-use Rattle.numbering.specs.Numbers.{number_in, meeting, meeting_target, no_target, target_in}
-use Rattle.numbering.specs.Buckets.{max_names, buckets, slot_at, name_at, Named, held, bucket_of, bucket_at, last_in, Listing, again, Before, Meets}
-use Rattle.numbering.specs.declared.inside.Met.{Met}
+use Rattle.numbering.specs.Numbers.{number_in, meeting}
+use Rattle.numbering.specs.Buckets.{max_names, buckets, slot_at, name_at, Named, held, bucket_of, bucket_at, last_in, Listing, again, Before}
 use Rattle.numbering.proofs.NumberLaws.{number_most, number_same, number_none, number_append, number_new, meeting_known, meeting_new}
-use Rattle.numbering.proofs.NamesLaws.{target_none, target_some}
-use Rattle.numbering.proofs.HeldLaws.{slot_owner, slot_target, held_length, held_at, held_more, last_here, last_past, last_none, last_same, Last, last_is}
+use Rattle.numbering.proofs.HeldLaws.{held_length, held_at, held_more, last_here, last_past, last_none, last_same, Last, last_is}
 
 -- ---- buckets
 pub bucket_small : (s : List ℕ) → bucket_of s < buckets
@@ -113,13 +110,8 @@ module _ {t head link places : List ℕ} {count : ℕ} (w : Listing t head link 
   abbrev ns : List (List ℕ)
   ns = held t places count
 
-  pub meets_known : (k : ℕ) → k ≡ number_in ns x → k < count → Meets t count (number_in ns x) (meeting ns x) head link places (record { number = k; count = count })
-  meets_known k e l = record {
-    numbered = e;
-    names_are = let m = held_length t places count in sym (meeting_known ns x (omega arith));
-    listing = w;
-    most = omega arith;
-  }
+  pub names_known : (k : ℕ) → k ≡ number_in ns x → k < count → ns ≡ meeting ns x
+  names_known k e l = let m = held_length t places count in sym (meeting_known ns x (omega arith))
 
   pub number_new_is : (k : ℕ) → k ≡ number_in ns x → count ≤ k → count ≡ number_in ns x
   number_new_is k e l = let m = number_most ns x in let h = held_length t places count in omega arith
@@ -193,13 +185,11 @@ module _ {t head link places : List ℕ} {count : ℕ} (w : Listing t head link 
           ∙ ap (λ (a : ℕ). last_in (bucket_at t places') a count) (sym bucket_new));
     }
 
-    pub meets_new : Meets t count (number_in ns x) (meeting ns x) head' link' places' (record { number = count; count = count + 1 })
-    meets_new = record {
-      numbered = e;
-      names_are = names_new ∙ sym (meeting_new ns x absent);
-      listing = listing_new;
-      most = omega arith;
-    }
+    pub listing_put : (b' : ℕ) → b' ≡ b → Listing t (set head b' (count + 1)) (set link count (get_or head b' 0)) places' (count + 1)
+    listing_put b' q = rw q listing_new
+
+    pub names_met : held t places' (count + 1) ≡ meeting ns x
+    names_met = names_new ∙ sym (meeting_new ns x absent)
 
 -- ---- the owner of a record is met, or it is that of the record before
 module _ (t : List ℕ) (i : ℕ) where
@@ -221,38 +211,10 @@ module _ (t : List ℕ) (i : ℕ) where
   unfolding again
   again_is n = rw (lt-ltb 0 i (omega (arith, n)))
 
-  pub meets_again : {own head link places : List ℕ} {count : ℕ} → Listing t head link places count → Before t own (held t places count) i → again t i ≡ true →
-      Meets t count (number_in (held t places count) (owner_at t i)) (meeting (held t places count) (owner_at t i)) head link places (record { number = get_or own (i - 1) 0; count = count })
-  meets_again {own} {head} {link} {places} {count} w b h =
+  -- its number is the one that is noted, and the list stays
+  pub noted_again : {own : List ℕ} (ns : List (List ℕ)) → Before t own ns i → again t i ≡ true → (get_or own (i - 1) 0 ≡ number_in ns (owner_at t i)) × (ns ≡ meeting ns (owner_at t i))
+  noted_again ns b h =
       let s = again_same h in
-      let ns = held t places count in
       let e = number_same ns (owner_at t (i - 1)) (owner_at t i) s.1 in
-      let l = b.listed s.0 in record {
-        numbered = b.number s.0 ∙ e;
-        names_are = sym (meeting_known ns (owner_at t i) (omega arith));
-        listing = w;
-        most = omega arith;
-      }
-
-  pub meets_owner : {head' link' places' : List ℕ} {count : ℕ} (ns : List (List ℕ)) {m : Met} →
-      Meets t count (number_in ns (name_at t (2 * i))) (meeting ns (name_at t (2 * i))) head' link' places' m → Meets t count (number_in ns (owner_at t i)) (meeting ns (owner_at t i)) head' link' places' m
-  meets_owner ns r = rw (← slot_owner t i) r
-
--- ---- the target of a record is met, or there is none
-module _ (t : List ℕ) (i : ℕ) where
-  pub meets_none : {head link places : List ℕ} {count : ℕ} → Listing t head link places count → targetless (record_at t i) ≡ true →
-      Meets t count (target_in (held t places count) t i) (meeting_target t i (held t places count)) head link places (record { number = no_target; count = count })
-  meets_none {head} {link} {places} {count} w h =
-      let e = target_none (held t places count) t i h in record {
-        numbered = sym e.1;
-        names_are = sym e.0;
-        listing = w;
-        most = omega arith;
-      }
-
-  pub meets_target : {head' link' places' : List ℕ} {count : ℕ} (ns : List (List ℕ)) {m : Met} → targetless (record_at t i) ≡ false →
-      Meets t count (number_in ns (name_at t (2 * i + 1))) (meeting ns (name_at t (2 * i + 1))) head' link' places' m →
-      Meets t count (target_in ns t i) (meeting_target t i ns) head' link' places' m
-  meets_target ns h r =
-      let e = target_some ns t i h in
-      rw (e.0, e.1, ← slot_target t i) r
+      let l = b.listed s.0 in
+      (b.number s.0 ∙ e, sym (meeting_known ns (owner_at t i) (omega arith)))

@@ -1,11 +1,10 @@
 -- How the list of names is kept while a table is numbered: each name by its place in the table, in buckets by the mark of its slot.
 -- The code's own: nothing that a reader must believe.
-use Rattle.std.specs.Prelude.{ℕ, zero, suc, ◌+◌, ◌-◌, ◌/◌, ◌%◌, ◌≤◌, ◌<◌, ◌≡◌, Bool, true, false, ◌&&◌, List, [], ◌∷◌, ◌++◌, ltb, eqb, length, get_or}
+use Rattle.std.specs.Prelude.{ℕ, zero, suc, ◌-◌, ◌/◌, ◌%◌, ◌≤◌, ◌<◌, ◌≡◌, Bool, true, false, ◌&&◌, List, [], ◌∷◌, ◌++◌, ltb, eqb, length, get_or}
 use Rattle.plan.specs.Layout.{name_in, owner_slot, target_slot, count_of, record_at, owner_at}
 use Rattle.plan.specs.Good.{Holds}
 use Rattle.plan.specs.Marks.{mark_of, alike_of}
-use Rattle.numbering.specs.Numbers.{number_in, names_of}
-use Rattle.numbering.specs.declared.inside.Met.{Met}
+use Rattle.numbering.specs.Numbers.{number_in}
 
 -- the most names of a table, and the number of buckets
 abbrev pub max_names : ℕ
@@ -68,15 +67,3 @@ pub record Before (t own : List ℕ) (names : List (List ℕ)) (i : ℕ) : Type 
   pub noted : i ≤ length own
   pub number : 0 < i → get_or own (i - 1) 0 ≡ number_in names (owner_at t (i - 1))
   pub listed : 0 < i → number_in names (owner_at t (i - 1)) < length names
-
--- a name is met: its number, and the list after it
-pub record Meets (t : List ℕ) (count number : ℕ) (names : List (List ℕ)) (head' link' places' : List ℕ) (m : Met) : Type 0 where
-  pub numbered : m.number ≡ number
-  pub names_are : held t places' m.count ≡ names
-  pub listing : Listing t head' link' places' m.count
-  pub most : m.count ≤ count + 1
-
--- all names of the table are listed
-pub record Complete (t head' link' places' : List ℕ) (count : ℕ) : Type 0 where
-  pub all : held t places' count ≡ names_of t
-  pub kept : Listing t head' link' places' count

@@ -10,6 +10,6 @@ returns-then-index-eq0 c = let a = c.args in sym (again_first a.table.now a.inde
 pub returns : goal.returns
 returns c =
     let a = c.args in
-    let p = c.owner_slot.ensures.0 ∙ ap owner_slot c.row.ensures.0 in
-    let q = c.owner_slot-2.ensures.0 ∙ ap owner_slot c.row-2.ensures.0 in
+    let p = c.owner_slot.ensures ∙ ap owner_slot c.row.ensures in
+    let q = c.owner_slot-2.ensures ∙ ap owner_slot c.row-2.ensures in
     c.alike.ensures ∙ rw (p, q) (sym (again_is a.table.now a.index c.if-index-eq0.false))

@@ -7,9 +7,9 @@ use Rattle.numbering.proofs.inside.slot_at.Goals as goal
 pub returns-then-place-eq0 : goal.returns-then-place-eq0
 returns-then-place-eq0 c =
     let a = c.args in
-    (c.owner_slot.ensures.0 ∙ ap owner_slot c.row-row.ensures.0 ∙ sym (slot_even a.table.now a.place c.if-place-eq0.true), c.owner_slot.ensures.1)
+    c.owner_slot.ensures ∙ ap owner_slot c.row-row.ensures ∙ sym (slot_even a.table.now a.place c.if-place-eq0.true)
 
 pub returns : goal.returns
 returns c =
     let a = c.args in
-    (c.target_slot.ensures.0 ∙ ap target_slot c.row-row.ensures.0 ∙ sym (slot_odd a.table.now a.place c.if-place-eq0.false), c.target_slot.ensures.1)
+    c.target_slot.ensures ∙ ap target_slot c.row-row.ensures ∙ sym (slot_odd a.table.now a.place c.if-place-eq0.false)
