@@ -8,6 +8,7 @@ use lib.Arith.{digits_lt, digits_div, digits_mod}
 use lib.ListN.{length, get_or, take, drop, length-append, length-take, length-drop}
 use lib.Pow.{pow-add, mod-pow-add}
 use lib.Seq.{take-add, drop-drop, drop-cons}
+use Rattle.std.specs.Int.{byte_at, bytes_high_first}
 use Rattle.octets.specs.Octets.{Small}
 use Rattle.octets.specs.Numbers.{value_of, octets_of}
 use Rattle.octets.proofs.OctetLaws.{small_take, small_drop}
@@ -121,3 +122,13 @@ module _ (o : List ℕ) (at : ℕ) where
       let n : length (take 4 (drop (at + 4) o)) ≡ 4 = omega (arith, length-take 4 (drop (at + 4) o), length-drop (at + 4) o) in
       ap value_of (take-add 4 4 (drop at o) ∙ ap (λ (xs : List ℕ). take 4 (drop at o) ++ take 4 xs) (drop-drop 4 at o))
       ∙ value_append (take 4 (drop at o)) (take 4 (drop (at + 4) o)) ∙ rw n
+
+-- the library's octets of a number, the highest first
+pub octets_high_first : (n v : ℕ) → bytes_high_first n v ≡ octets_of n v
+unfolding octets_of
+octets_high_first zero v = refl
+octets_high_first (suc n) v = λ i. octet_at n v i ∷ octets_high_first n v i
+  where
+    octet_at : (n v : ℕ) → byte_at n v ≡ v / 2 ^ (8 * n) % 256
+    octet_at zero v = let e : v / 1 ≡ v = omega arith in rw e refl
+    octet_at (suc n) v = rw (pow_octets (suc n)) refl

@@ -1,12 +1,12 @@
 -- Laws of zeros and of lists of octets.
-use Prim.Native.Nat.{ℕ, zero, suc, ◌+◌, ◌-◌, ◌≤◌, ◌<◌}
-use mathlib.Core.Path.{◌≡◌, refl, ◌∙◌}
-use mathlib.Core.List.{List, [], ◌∷◌, ◌++◌, append-nil}
-use lib.ListN.{length, take, drop, set, length-set, length-replicate}
-use lib.Seq.{take-take, get_or-drop, drop-length}
+use Prim.Native.Nat.{ℕ, zero, suc, ◌+◌, ◌-◌, ◌≤◌, ◌<◌, min}
+use mathlib.Core.Path.{◌≡◌, refl, sym, ap, subst}
+use mathlib.Core.List.{List, [], ◌∷◌, ◌++◌}
+use lib.ListN.{length, take, drop, set, replicate, length-replicate}
+use lib.Seq.{take-take, get_or-drop}
 use native.Mathlib.Omega.{arith}
-use native.Mathlib.Nat.{sub-zero, suc-sub-suc}
-use borrow.Author.Fill.{fill_more}
+use native.Mathlib.Nat.{sub-zero, suc-sub-suc, not-suc-le-zero, le_of_suc-le-suc}
+use native.Mathlib.Numerals.{add-one}
 use Rattle.octets.specs.Octets.{blank, Small}
 use Rattle.octets.specs.Each.{Under}
 
@@ -20,30 +20,20 @@ drop_blank zero n = rw sub-zero
 drop_blank (suc k) zero = let e : 0 - suc k ≡ 0 = omega arith in rw e
 drop_blank (suc k) (suc n) = rw suc-sub-suc (drop_blank k n)
 
--- the loop that clears a list, of octets or of numbers: what it keeps
-pub record Clearing (old new : List ℕ) (n i : ℕ) : Type 0 where
-  pub low : i ≤ n
-  pub size : n ≡ length old
-  pub long : length new ≡ length old
-  pub clear : new ≡ blank i ++ drop i old
+-- a list that is filled with v from the front, one store a turn
+pub fill_turn : {A : Type 0} (n : ℕ) (v : A) (xs : List A) → n < length xs → set (replicate n v ++ drop n xs) n v ≡ replicate (n + 1) v ++ drop (n + 1) xs
+fill_turn {A = A} n v xs l = subst (λ (k : ℕ). set (replicate n v ++ drop n xs) n v ≡ replicate k v ++ drop k xs) (sym (add-one n)) (go n xs l)
+  where
+    go : (n : ℕ) (xs : List A) → n < length xs → set (replicate n v ++ drop n xs) n v ≡ replicate (suc n) v ++ drop (suc n) xs
+    go n [] l = absurd (not-suc-le-zero l)
+    go zero (x ∷ xs) l = refl
+    go (suc n) (x ∷ xs) l = ap (λ (t : List A). v ∷ t) (go n xs (le_of_suc-le-suc l))
 
-pub clearing_start : (old : List ℕ) → Clearing old old (length old) 0
-unfolding blank
-clearing_start old = record { low = omega arith; size = refl; long = refl; clear = refl }
-
-module _ {old new : List ℕ} {n i : ℕ} (c : Clearing old new n i) where
-  pub clearing_turn : i < n → Clearing old (set new i 0) n (i + 1)
-  unfolding blank
-  clearing_turn h =
-      record {
-        low = omega arith;
-        size = c.size;
-        long = length-set new i 0 ∙ c.long;
-        clear = rw c.clear (fill_more i 0 old (omega (arith, c.size)));
-      }
-
-  pub clearing_end : n ≤ i → new ≡ blank (length old)
-  clearing_end h = let e : i ≡ length old = omega (arith, c.low, c.size) in rw (c.clear, e, drop-length) (append-nil _)
+-- what is left from a place on, or from the end where the place is past it
+pub drop_min : {A : Type 0} (k : ℕ) (xs : List A) → drop (min k (length xs)) xs ≡ drop k xs
+drop_min zero xs = let e : min 0 (length xs) ≡ 0 = omega arith in rw e refl
+drop_min (suc k) [] = let e : min (suc k) 0 ≡ 0 = omega arith in rw e refl
+drop_min (suc k) (x ∷ xs) = let e : min (suc k) (suc (length xs)) ≡ suc (min k (length xs)) = omega arith in rw e (drop_min k xs)
 
 -- lists of numbers below n
 module _ (n : ℕ) where

@@ -4,6 +4,7 @@ use mathlib.Core.Path.{◌≡◌, refl, ap}
 use mathlib.Core.Bool.{Bool, true, false}
 use mathlib.Core.List.{List, [], ◌∷◌}
 use lib.Dec.{eqb}
+use lib.Pointwise.{pointwise}
 use lib.ListN.{length, get_or, drop, drop_of_length-le}
 use native.Mathlib.Numerals.{add-one}
 use lib.Seq.{drop-cons}
@@ -33,6 +34,18 @@ same_eq = by_eq eqb eqb-true
 
 pub same_refl : (xs : List ℕ) → same xs xs ≡ true
 same_refl = by_refl eqb (λ x. eq-eqb x x refl)
+
+-- the library's test of two lists, element by element, is this one
+pub by_pointwise : {A : Type 0} (f : A → A → Bool) → (xs ys : List A) → pointwise f xs ys ≡ same_by f xs ys
+unfolding same_by
+by_pointwise f [] [] = refl
+by_pointwise f [] (y ∷ ys) = refl
+by_pointwise f (x ∷ xs) [] = refl
+by_pointwise f (x ∷ xs) (y ∷ ys) = go (f x y) refl (by_pointwise f xs ys)
+  where
+    go : (b : Bool) → f x y ≡ b → pointwise f xs ys ≡ same_by f xs ys → pointwise f (x ∷ xs) (y ∷ ys) ≡ same_by f (x ∷ xs) (y ∷ ys)
+    go true e ih = rw (e, same_by) ih
+    go false e ih = rw (e, same_by)
 
 pub same_unlike : (xs ys : List ℕ) → (length xs ≡ length ys → ⊥) → same xs ys ≡ false
 same_unlike xs ys h = go (same xs ys) refl

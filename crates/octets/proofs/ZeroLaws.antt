@@ -1,14 +1,13 @@
 -- Laws of octets that are all zero.
-use Prim.Native.Nat.{ℕ, suc, ◌+◌, ◌≤◌, ◌<◌}
-use mathlib.Core.Path.{◌≡◌, refl}
+use Prim.Native.Nat.{ℕ}
+use mathlib.Core.Path.{◌≡◌, refl, ◌∙◌, sym}
 use mathlib.Core.Bool.{Bool, true, false, ◌&&◌}
-use mathlib.Core.List.{List, ◌∷◌}
+use mathlib.Core.List.{List, [], ◌∷◌}
+use Rattle.std.specs.List.{fold}
 use lib.Dec.{eqb}
 use lib.Bits.{bit_or, or_add_and, and_le_l, and_le_r}
-use lib.ListN.{length, get_or, drop, drop_of_length-le}
-use lib.Seq.{drop-cons}
+use lib.ListN.{length}
 use native.Mathlib.Omega.{arith}
-use native.Mathlib.Numerals.{add-one}
 use borrow.Author.Tests.{eq-eqb, ne_eqb, eqb-true, eqb-false}
 use Rattle.octets.proofs.BoolLaws.{and_true}
 use Rattle.octets.specs.Octets.{blank, same_by}
@@ -44,16 +43,13 @@ or_zero x y = go (eqb x 0) (eqb y 0) refl refl
         let a : x ≡ 0 → ⊥ = eqb-false x 0 p in
         rw p (ne_eqb (bit_or x y) 0 (λ e. omega (arith, or_add_and x y, and_le_r x y, a)))
 
--- a turn of the loop that looks at every octet, and its end
-pub blank_on : (xs : List ℕ) (i all : ℕ) → i < length xs → eqb (bit_or all (get_or xs i 0)) 0 && is_blank (drop (i + 1) xs) ≡ eqb all 0 && is_blank (drop i xs)
-blank_on xs i all h =
-    rw (add-one, drop-cons xs i 0 h, blank_cons (get_or xs i 0) (drop (suc i) xs), or_zero all (get_or xs i 0))
-    (and_assoc (eqb all 0) (eqb (get_or xs i 0) 0) (is_blank (drop (suc i) xs)))
+-- all octets joined by OR are zero exactly when each is
+pub blank_fold : (xs : List ℕ) (all : ℕ) → eqb (fold bit_or all xs) 0 ≡ eqb all 0 && is_blank xs
+unfolding is_blank same_by blank
+blank_fold [] all = sym (and_true (eqb all 0))
+blank_fold (x ∷ xs) all =
+    rw (blank_cons x xs) (blank_fold xs (bit_or all x) ∙ (rw (or_zero all x) (and_assoc (eqb all 0) (eqb x 0) (is_blank xs))))
   where
     and_assoc : (a b c : Bool) → (a && b) && c ≡ a && (b && c)
     and_assoc true b c = refl
     and_assoc false b c = refl
-
-pub blank_end : (xs : List ℕ) (i all : ℕ) → length xs ≤ i → eqb all 0 && is_blank (drop i xs) ≡ eqb all 0
-unfolding is_blank same_by blank
-blank_end xs i all h = rw (drop_of_length-le xs {i = i} h) (and_true (eqb all 0))

@@ -8,18 +8,7 @@ pub fn copy(src: &[u8], at: usize, n: usize, out: &mut [u8], to: usize)
     requires { (at + n ≤ length src.now) × (to + n ≤ length out.old) }
     ensures { out.new ≡ paste out.old to (drop at src.now) n }
 {
-    let mut i: usize = 0;
-    while i < n {
-        out[to + i] = src[at + i];
-        i += 1;
-    }
-}
-
-// An octet as a number of 64 bits.
-fn octet(x: u8) -> u64
-    ensures { (result ≡ x) × (result < 256) }
-{
-    x as u64
+    out[to..to + n].copy_from_slice(&src[at..at + n]);
 }
 
 // Four octets as one number, the first the highest.
@@ -27,8 +16,8 @@ pub fn quarter(octets: &[u8], at: usize) -> u64
     requires { at + 4 ≤ length octets.now }
     ensures { (result ≡ value_of (take 4 (drop at octets.now))) × (result < 2 ^ 32) }
 {
-    ((octet(octets[at]) * 256 + octet(octets[at + 1])) * 256 + octet(octets[at + 2])) * 256
-        + octet(octets[at + 3])
+    let quarter = [octets[at], octets[at + 1], octets[at + 2], octets[at + 3]];
+    u64::from(u32::from_be_bytes(quarter))
 }
 
 // Eight octets as one number.
@@ -44,9 +33,5 @@ pub fn write(out: &mut [u8], at: usize, v: u64)
     requires { at + 8 ≤ length out.old }
     ensures { out.new ≡ paste out.old at (octets_of 8 v) 8 }
 {
-    let mut i: usize = 0;
-    while i < 8 {
-        out[at + i] = ((v >> (8 * (7 - i))) % 256) as u8;
-        i += 1;
-    }
+    out[at..at + 8].copy_from_slice(&v.to_be_bytes());
 }

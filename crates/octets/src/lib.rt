@@ -1,8 +1,8 @@
 // Octets and answers: what every layer above shares.
 #![tactic(auto)]
 
-ghost use Rattle.std.specs.Prelude.{◌≡◌, ◌<◌, length};
-ghost use Rattle.octets.specs.Octets.{blank, same};
+ghost use Rattle.std.specs.Prelude.{◌≡◌, ◌<◌, ℕ, List, length, replicate};
+ghost use Rattle.octets.specs.Octets.{blank, blank_replicated, same};
 ghost use Rattle.octets.specs.Answers.{refusal};
 ghost use Rattle.octets.specs.Refusals.{answered};
 
@@ -87,15 +87,49 @@ pub fn refused(number: u8) -> Answer
     }
 }
 
+// What a list can be cleared of: an element that may be zero.
+pub trait Zero: Copy {
+    ghost zeros: { ℕ → List Self };
+
+    ghost nought: { Self };
+
+    fn zero() -> Self
+        ensures { result ≡ nought };
+
+    ghost replicated: { (n : ℕ) → zeros n ≡ replicate n nought };
+}
+
+impl Zero for u8 {
+    ghost zeros = { blank };
+
+    ghost nought = { 0 };
+
+    ghost replicated = { blank_replicated };
+
+    fn zero() -> u8 {
+        0u8
+    }
+}
+
+impl Zero for u32 {
+    ghost zeros = { blank };
+
+    ghost nought = { 0 };
+
+    ghost replicated = { blank_replicated };
+
+    fn zero() -> u32 {
+        0u32
+    }
+}
+
 // Zeros from end to end.
-pub fn clear(out: &mut [u8])
-    ensures { out.new ≡ blank (length out.old) }
+pub fn clear<T: Zero>(out: &mut [T])
+    ensures { out.new ≡ T.zeros (length out.old) }
 {
-    let n = out.len();
-    let mut i: usize = 0;
-    while i < n {
-        out[i] = 0;
-        i += 1;
+    let nought = T::zero();
+    for x in out.iter_mut() {
+        *x = nought;
     }
 }
 
@@ -103,25 +137,14 @@ pub fn clear(out: &mut [u8])
 pub fn equal(a: &[u8], b: &[u8]) -> bool
     ensures { result ≡ same a.now b.now }
 {
-    let n = a.len();
-    if n != b.len() {
-        return false;
-    }
-    let mut i: usize = 0;
-    while i < n {
-        if a[i] != b[i] {
-            return false;
-        }
-        i += 1;
-    }
-    true
+    a == b
 }
 
 // An octet as an index or a length.
 pub fn wide(x: u8) -> usize
     ensures { (result ≡ x) × (result < 256) }
 {
-    x as usize
+    usize::from(x)
 }
 
 pub mod inside;

@@ -1,15 +1,12 @@
-use native.Mathlib.Omega.{arith}
-use Rattle.octets.proofs.OctetLaws.{clearing_start, clearing_turn, clearing_end}
+use Rattle.std.proofs.Common.{◌≡◌, ◌∙◌, sym, length, arith, append-nil}
+use lib.Seq.{drop-length}
+use Rattle.octets.proofs.OctetLaws.{fill_turn}
 use Rattle.octets.proofs.clear.Goals as goal
 
-pub loop-i-init : goal.loop-i-init
-loop-i-init c = clearing_start c.args.out.now
-
-pub loop-i-preserved : goal.loop-i-preserved
-loop-i-preserved c = clearing_turn c.before.loop-i.invariant (omega arith)
-
-pub shape_of-out : goal.shape_of-out
-shape_of-out c = c.before.loop-i.invariant.long
+pub loop-x-preserved : goal.loop-x-preserved
+loop-x-preserved g c = rw (c.loop-x.invariant, c.zero-nought.ensures) (fill_turn c.loop-x.x-index g.T.Zero.nought c.args.out.now c.loop-x-test.true)
 
 pub returns : goal.returns
-returns c = clearing_end c.before.loop-i.invariant (omega arith)
+returns g c =
+    let e : c.loop-x.x-index ≡ length c.args.out.now = omega arith in
+    rw (c.loop-x.invariant, e, drop-length) (append-nil _ ∙ sym (g.met.T.Zero.replicated (length c.args.out.now)))

@@ -1,10 +1,6 @@
--- `octets::clear` meets its contract.
-use Prim.Native.Nat.{◌-◌}
-use Rattle.octets.proofs.OctetLaws.{Clearing}
+-- `octets::clear` meets its contract: what is passed is zero.
+use Rattle.std.proofs.Common.{◌≡◌, ◌++◌, drop, replicate}
 use Rattle.octets.proofs.clear.Given as goal
 
-abbrev pub invariant-loop-i : goal.invariant-loop-i
-invariant-loop-i l = Clearing l.initial.out l.out l.n l.i
-
-abbrev pub decreases-loop-i : goal.decreases-loop-i
-decreases-loop-i l = l.n - l.i
+abbrev pub invariant-loop-x : goal.invariant-loop-x
+invariant-loop-x g l = l.out ≡ replicate l.x-index g.T.Zero.nought ++ drop l.x-index l.initial.out

@@ -1,19 +1,13 @@
-use mathlib.Core.Path.{refl, ◌∙◌, sym}
-use native.Mathlib.Omega.{arith}
-use Rattle.octets.proofs.ZeroLaws.{blank_on, blank_end}
+-- `octets::zeros::is_blank` meets its contract: all octets are joined by OR.
+use Rattle.std.proofs.Common.{◌≡◌, ◌-◌, take, length, drop}
+use Rattle.std.proofs.lemmas.List.{take_rest}
+use Rattle.octets.proofs.OctetLaws.{drop_min}
+use Rattle.octets.proofs.ZeroLaws.{blank_fold}
 use Rattle.octets.proofs.zeros.is_blank.Goals as goal
-
-pub loop-i-init : goal.loop-i-init
-loop-i-init c = (refl, refl)
-
-pub loop-i-preserved : goal.loop-i-preserved
-loop-i-preserved c =
-    let s = c.before.before.before.args.s.now in
-    let l = c.before.before.loop-i in
-    (refl, blank_on s l.i l.all (omega arith) ∙ l.invariant.1)
 
 pub returns : goal.returns
 returns c =
-    let s = c.before.before.args.s.now in
-    let l = c.before.loop-i in
-    sym (blank_end s l.i l.all (omega arith)) ∙ l.invariant.1
+    let s = c.args.s.now in
+    let m = c.min.result in
+    let e : take (length s - m) (drop m s) ≡ drop c.args.from s = rw (take_rest, c.min.ensures) (drop_min c.args.from s) in
+    rw (c.joined.ensures, e) (blank_fold (drop c.args.from s) 0)
