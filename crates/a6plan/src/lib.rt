@@ -218,7 +218,7 @@ fn wiped(out: &mut [u8], figures: &mut [u32]) -> bool
     ensures figures_after { figures.new ≡ blank (length figures.old) }
 {
     octets::clear(out);
-    octets::numbers::clear(figures);
+    octets::clear(figures);
     true
 }
 
@@ -285,7 +285,7 @@ fn keep_numbers(wanted: usize, n: usize, list: &mut [u32])
     if n == wanted {
         return;
     }
-    octets::numbers::clear(list);
+    octets::clear(list);
 }
 
 // Figures put where there are as many places; else zeros.
@@ -294,7 +294,7 @@ fn put_figures(all: &[u32], figures: &mut [u32])
 {
     let n = all.len();
     if figures.len() != n {
-        return octets::numbers::clear(figures);
+        return octets::clear(figures);
     }
     let mut i: usize = 0;
     while i < n {
@@ -309,7 +309,7 @@ fn figure(earlier: &[u8], answer: octets::Answer, figures: &mut [u32]) -> u32
     ensures number { result ≡ exported_number (record { wanted = 2; earlier = earlier.now }) (length figures.old) answer.number }
     ensures figured { figures.new ≡ exported_figures result answer (length figures.old) }
 {
-    octets::numbers::clear(figures);
+    octets::clear(figures);
     let number = exported(2, earlier, figures.len(), answer.number);
     if number != 0 {
         return number;

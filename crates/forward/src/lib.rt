@@ -26,7 +26,7 @@ pub fn lookup(
     ensures lifetimes { ttls.new ≡ lookup_ttls table.now name.now limit (length out.old) (length ttls.old) }
 {
     octets::clear(out);
-    octets::numbers::clear(ttls);
+    octets::clear(ttls);
     let entered = plan::inside::enter(table, name);
     let number = entered.number;
     let fault = entered.fault;

@@ -160,7 +160,7 @@ fn refuse(reason: Refusal, out: &mut [u8], lives: &mut [u32]) -> Result<Done, Re
     ensures { (answered result ≡ refusal (code_of reason)) × (out.new ≡ blank (length out.old)) × (lives.new ≡ blank (length lives.old)) }
 {
     octets::clear(out);
-    octets::numbers::clear(lives);
+    octets::clear(lives);
     Err(reason)
 }
 
