@@ -3,8 +3,6 @@
 // read, and a case that is cut short gets no answer.
 #![tactic(auto)]
 
-ghost use Rattle.std.specs.Prelude.{◌≡◌, length};
-
 use std::io;
 
 // The octets of a case, and the most octets that are read: all 256 positions for seven pairs of addresses.
@@ -19,23 +17,16 @@ fn main(rt: HostRuntime) -> io::Result<()> {
 }
 
 // The cases, one after the other.
-fn answer(rt: &impl Print, cases: &[u8]) -> io::Result<()> {
-    let n = cases.len();
-    let mut at: usize = 0;
-    while CASE <= n - at {
-        write_joined(rt, &cases[at..at + CASE])?;
-        at += CASE;
+fn answer(rt: &impl Print, input: &[u8]) -> io::Result<()> {
+    let (cases, _) = input.as_chunks::<CASE>();
+    for case in cases {
+        write_joined(rt, case)?;
     }
     Ok(())
 }
 
-// The answer to one case.
-fn write_joined(rt: &impl Print, case: &[u8]) -> io::Result<()>
-    requires { length case.now ≡ 33 }
-{
-    let mut high = [0u8; 16];
-    let mut low = [0u8; 16];
-    octets::inside::copy(case, 0, 16, &mut high, 0);
-    octets::inside::copy(case, 16, 16, &mut low, 0);
-    rt.write_all(&address::join(high, low, case[32]))
+// The answer to one case: two addresses, and the octet after them.
+fn write_joined(rt: &impl Print, case: &[u8; CASE]) -> io::Result<()> {
+    let (addresses, position) = case.as_chunks::<16>();
+    rt.write_all(&address::join(addresses[0], addresses[1], position[0]))
 }
