@@ -1,12 +1,10 @@
 -- Laws of what standard_form answers.
 use Prim.Native.Nat.{ℕ, ◌-◌}
-use mathlib.Core.Path.{◌≡◌, refl, ap, ◌∙◌, sym}
+use mathlib.Core.Path.{◌≡◌, refl, ap, sym}
 use mathlib.Core.Bool.{true, false, not}
 use mathlib.Core.List.{List, ◌++◌}
 use lib.ListN.{length, drop}
-use lib.Seq.{take_all, paste}
 use native.Mathlib.Omega.{arith}
-use native.Mathlib.Nat.{zero-add}
 use lib.Dec.{eqb}
 use borrow.Author.Tests.{eq-eqb, ne_eqb, eqb-true, not-false}
 use Rattle.octets.specs.Octets.{blank, Small}
@@ -106,14 +104,9 @@ module _ (name : List ℕ) (room : ℕ) where
   unfolding out_by
   done_puts h k = rw (number_done name room h k, k)
 
--- a copy to the front of zeros
-copied : (name out : List ℕ) (n room : ℕ) → n ≡ length name → out ≡ paste (blank room) 0 (drop 0 name) n → out ≡ name ++ blank (room - length name)
-copied name out n room e p = p ∙ rw (zero-add n, e, take_all (length name) name (omega arith), drop_blank (length name) room)
-
--- the copy of a name that a scan finds in standard form
-pub standard_copied : (name out : List ℕ) (room : ℕ) → Small name → well_formed name ≡ true → standard_by (scanned (scan_of name)) ≡ true → out ≡ paste (blank room) 0 (drop 0 name) (length name)
-    → (out ≡ standard_of name ++ blank (room - length (standard_of name))) × (length name ≡ length (standard_of name))
-standard_copied name out room s w t p =
+-- the copy over zeros of a name that a scan finds in standard form
+pub standard_copied : (name : List ℕ) → Small name → well_formed name ≡ true → standard_by (scanned (scan_of name)) ≡ true
+    → (name ++ drop (length name) (blank 255) ≡ standard_of name ++ blank (255 - length (standard_of name))) × (length name ≡ length (standard_of name))
+standard_copied name s w t =
     let e : standard_of name ≡ name = standard_apart name s w (form_standard name t) in
-    let q : name ++ blank (room - length name) ≡ standard_of name ++ blank (room - length (standard_of name)) = rw e in
-    (copied name out (length name) room refl p ∙ q, ap length (sym e))
+    (rw (e, drop_blank (length name) 255), ap length (sym e))

@@ -1,11 +1,12 @@
 -- Laws of letters in lower case: which octets count alike.
 use Prim.Native.Nat.{ℕ, ◌+◌, ◌≤◌, ◌<◌}
-use mathlib.Core.Path.{◌≡◌, refl, ap}
+use mathlib.Core.Path.{◌≡◌, refl, ap, sym}
 use mathlib.Core.Bool.{Bool, true, false}
 use mathlib.Core.Logic.{◌⊎◌, inl, inr}
 use lib.Dec.{ltb}
 use native.Mathlib.Omega.{arith}
 use borrow.Author.Tests.{lt-ltb, le-ltb, ltb-true, ltb-false}
+use Rattle.std.specs.Char.{to_ascii_lowercase}
 use Rattle.names.specs.Standard.{lower}
 
 -- the three ways
@@ -20,6 +21,15 @@ lower_large x h = rw (lower, lt-ltb 64 x (omega arith), le-ltb x 91 h)
 pub lower_letter : (x : ℕ) → 64 < x → x < 91 → lower x ≡ x + 32
 unfolding lower
 lower_letter x h k = rw (lower, lt-ltb 64 x h, lt-ltb x 91 k)
+
+-- as the library has it
+pub lower_ascii : (x : ℕ) → to_ascii_lowercase x ≡ lower x
+lower_ascii x = go (ltb x 65) (ltb x 91) refl refl
+  where
+    go : (b c : Bool) → ltb x 65 ≡ b → ltb x 91 ≡ c → to_ascii_lowercase x ≡ lower x
+    go true c d e = rw d (sym (lower_small x (omega (arith, ltb-true x 65 d))))
+    go false true d e = rw (d, e) (sym (lower_letter x (omega (arith, ltb-false x 65 d)) (ltb-true x 91 e)))
+    go false false d e = rw (d, e) (sym (lower_large x (ltb-false x 91 e)))
 
 -- an octet is a letter from A to Z or counts as it is
 pub lower_ways : (x : ℕ) → (lower x ≡ x) ⊎ ((64 < x) × (x < 91) × (lower x ≡ x + 32))

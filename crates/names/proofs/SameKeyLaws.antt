@@ -4,14 +4,14 @@ use mathlib.Core.Path.{◌≡◌, refl, ap, ap₂, ◌∙◌, sym}
 use mathlib.Core.Bool.{Bool, true, false, ◌&&◌}
 use mathlib.Core.List.{List, [], ◌∷◌, map, tail-eq_of_cons-eq, head-eq_of_cons-eq}
 use lib.Dec.{eqb}
-use lib.ListN.{length, get_or, take, drop, drop_of_length-le, get_or-map}
+use lib.ListN.{length, get_or, take, drop, drop_of_length-le, get_or-map, length-map}
 use lib.Seq.{drop-cons, drop-drop, get_or-drop, get_or-take, take-length, length-take-le}
 use native.Mathlib.Omega.{arith}
-use borrow.Author.Tests.{eq-eqb, ne_eqb, eqb-true}
+use borrow.Author.Tests.{eq-eqb, ne_eqb, eqb-true, eqb-false}
 use Rattle.octets.specs.Octets.{same_by, same}
 use Rattle.bits.specs.Bits.{octets_for}
 use Rattle.labels.specs.Labels.{count_for}
-use Rattle.octets.proofs.SameLaws.{same_eq, same_refl, same_unlike}
+use Rattle.octets.proofs.SameLaws.{same_eq, same_refl, same_unlike, same_on, same_off}
 use Rattle.octets.proofs.BoolLaws.{and_true, and_false, clash, refuted}
 use Rattle.names.specs.Standard.{lower}
 use Rattle.names.specs.Keys.{octet_key, key_from, key_octets, walked}
@@ -25,6 +25,29 @@ keys_unlike a b h = same_unlike (key_octets a) (key_octets b) (λ e. h (sym (key
 pub lowered_at : (xs : List ℕ) (i : ℕ) → get_or (map lower xs) i 0 ≡ lower (get_or xs i 0)
 unfolding lower
 lowered_at xs i = get_or-map lower xs i 0
+
+-- what is left of both in lower case, from one place on and from the next
+pub same_lowered_turn : (a b : List ℕ) (i : ℕ) (ok : Bool) (x y : ℕ) → i < length a → i < length b → x ≡ lower (get_or a i 0) → y ≡ lower (get_or b i 0)
+    → ((ok && eqb x y) && same (drop (i + 1) (map lower a)) (drop (i + 1) (map lower b))) ≡ (ok && same (drop i (map lower a)) (drop i (map lower b)))
+same_lowered_turn a b i ok x y p q e f = go (eqb x y) refl
+  where
+    xs : List ℕ
+    xs = map lower a
+
+    ys : List ℕ
+    ys = map lower b
+
+    go : (t : Bool) → eqb x y ≡ t → ((ok && t) && same (drop (i + 1) xs) (drop (i + 1) ys)) ≡ (ok && same (drop i xs) (drop i ys))
+    go true h =
+        let m = length-map a lower in
+        let n = length-map b lower in
+        let k = same_on xs ys i (omega arith) (omega arith) (lowered_at a i ∙ sym e ∙ eqb-true x y h ∙ f ∙ sym (lowered_at b i)) in
+        rw (and_true ok, k)
+    go false h =
+        let m = length-map a lower in
+        let n = length-map b lower in
+        let k = same_off xs ys i (omega arith) (omega arith) (λ z. eqb-false x y h (e ∙ sym (lowered_at a i) ∙ z ∙ lowered_at b i ∙ sym f)) in
+        rw (and_false ok, k) (sym (and_false ok))
 
 -- a place at which two lists differ so
 pub alike_off : (a b : List ℕ) (i : ℕ) → (lower (get_or a i 0) ≡ lower (get_or b i 0) → ⊥) → same (map lower a) (map lower b) ≡ false

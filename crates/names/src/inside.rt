@@ -13,12 +13,11 @@ pub fn put_standard(name: &[u8], standard: bool, out: &mut [u8]) -> usize
     requires { (well_formed name.now ≡ true) × (standard ≡ standard_by (scanned (scan_of name.now))) × (out.old ≡ blank 255) }
     ensures { (out.new ≡ standard_of name.now ++ blank (255 - length (standard_of name.now))) × (result ≡ length (standard_of name.now)) × (result ≤ 255) }
 {
-    if standard {
-        let n = name.len();
-        octets::inside::copy(name, 0, n, out, 0);
-        return n;
+    if !standard {
+        return crate::merge(name, out);
     }
-    crate::merge(name, out)
+    out[..name.len()].copy_from_slice(name);
+    name.len()
 }
 
 // Whether two names in standard form are the same name.
@@ -33,16 +32,13 @@ pub fn equal(a: &[u8], b: &[u8]) -> bool
 pub fn same_key(a: &[u8], b: &[u8]) -> bool
     ensures { result ≡ same (key_octets a.now) (key_octets b.now) }
 {
-    let n = a.len();
-    if n != b.len() {
+    if a.len() != b.len() {
         return false;
     }
-    let mut i: usize = 0;
-    while i < n {
-        if a[i] != b[i] {
+    for (i, x) in a.iter().enumerate() {
+        if *x != b[i] {
             return respelt(a, b, i);
         }
-        i += 1;
     }
     true
 }
@@ -52,24 +48,15 @@ fn respelt(a: &[u8], b: &[u8], i: usize) -> bool
     requires { (length a.now ≡ length b.now) × (i < length a.now) }
     ensures { result ≡ same (key_octets a.now) (key_octets b.now) }
 {
-    if lowered(a[i]) != lowered(b[i]) {
-        return false;
-    }
     // Lent on by `[..]` and not by their own names, the slices stay in registers; so below.
-    same_labels(&a[..], &b[..], 0, a.len())
+    lowered(a[i]) == lowered(b[i]) && same_labels(&a[..], &b[..], 0, a.len())
 }
 
 // A letter from A to Z as the one from a to z; every other octet as it is.
 fn lowered(x: u8) -> u8
     ensures { result ≡ lower x }
 {
-    if x <= 64 {
-        return x;
-    }
-    if 91 <= x {
-        return x;
-    }
-    x + 32
+    x.to_ascii_lowercase()
 }
 
 // Whether all octets are the same in lower case, and the labels from `at` to `end` have the same keys. At the end all octets are compared as if they were
@@ -88,10 +75,7 @@ pub fn same_labels(a: &[u8], b: &[u8], at: usize, end: usize) -> bool
     }
     let from = i + 1;
     let size = bit_octets(a, from, end);
-    if !same_labels(&a[..], &b[..], from + size, end) {
-        return false;
-    }
-    same_part(a, b, from, size, end)
+    same_labels(&a[..], &b[..], from + size, end) && same_part(a, b, from, size, end)
 }
 
 // The first place from `at` on where no ordinary label begins that has one length in both.
@@ -100,15 +84,8 @@ fn past_letters(a: &[u8], b: &[u8], at: usize, end: usize) -> usize
     ensures { Past a.now b.now end at result }
 {
     let mut i = at;
-    while i < end {
-        let x = a[i];
-        if x != b[i] {
-            return i;
-        }
-        if x == 65 {
-            return i;
-        }
-        i += 1 + octets::wide(x);
+    while i < end && a[i] == b[i] && a[i] != 65 {
+        i += 1 + usize::from(a[i]);
     }
     i
 }
@@ -118,14 +95,9 @@ fn same_lowered(a: &[u8], b: &[u8]) -> bool
     requires { length a.now ≡ length b.now }
     ensures { result ≡ same (map lower a.now) (map lower b.now) }
 {
-    let n = a.len();
     let mut alike = true;
-    let mut i: usize = 0;
-    while i < n {
-        if lowered(a[i]) != lowered(b[i]) {
-            alike = false;
-        }
-        i += 1;
+    for (i, x) in a.iter().enumerate() {
+        alike &= lowered(*x) == lowered(b[i]);
     }
     alike
 }
@@ -135,10 +107,8 @@ fn bit_octets(name: &[u8], i: usize, end: usize) -> usize
     requires { end ≤ length name.now }
     ensures { (result ≡ 1 + octets_for (count_for (get_or (take end name.now) i 0))) × (result ≤ 33) }
 {
-    if end <= i {
-        return 33;
-    }
-    1 + (labels::inside::count(name[i]) + 7) / 8
+    let count = name[..end].get(i).copied().unwrap_or(0);
+    1 + bits::inside::octets_for(labels::inside::count(count))
 }
 
 // Whether so many octets from a place on are the same; as many as there are before `end` where they are fewer.
@@ -146,9 +116,6 @@ fn same_part(a: &[u8], b: &[u8], i: usize, size: usize, end: usize) -> bool
     requires { (length a.now ≡ length b.now) × (end ≤ length a.now) × (i ≤ end) × (size ≤ 33) }
     ensures { result ≡ same (take size (drop i (take end a.now))) (take size (drop i (take end b.now))) }
 {
-    let e = i + size;
-    if e <= end {
-        return octets::equal(&a[i..e], &b[i..e]);
-    }
-    octets::equal(&a[i..end], &b[i..end])
+    let to = end.min(i + size);
+    octets::equal(&a[i..to], &b[i..to])
 }

@@ -42,18 +42,16 @@ overflow_add-from-2 t c = omega (arith, c.bit_octets-size.ensures.1)
 pub same_labels-requires : goal.same_labels-requires
 same_labels-requires t c = (omega (arith, c.past_letters-i.ensures.on), c.requires)
 
-pub returns-then-not-same_labels : goal.returns-then-not-same_labels
-returns-then-not-same_labels t c =
-    let here = (goal.at.returns-then-not-same_labels t c).After-bit_octets-size in
-    let r = c.same_labels in
-    sym (bits_walk t here ∙ ap (λ (v : Bool). v && part t here) (sym r.ensures ∙ c.if-not-same_labels.true))
+pub returns-else-same_labels : goal.returns-else-same_labels
+returns-else-same_labels t c =
+    let here = (goal.at.returns-else-same_labels t c).After-bit_octets-size in
+    c.if-same_labels.false ∙ sym (bits_walk t here ∙ ap (λ (v : Bool). v && part t here) (sym c.same_labels.ensures ∙ c.if-same_labels.false))
 
 pub same_part-requires : goal.same_part-requires
 same_part-requires t c =
     (c.requires.0, c.requires.1, omega arith, c.bit_octets-size.ensures.1)
 
-pub returns : goal.returns
-returns t c =
-    let here = (goal.at.returns t c).After-bit_octets-size in
-    let r = c.same_labels in
-    c.same_part.ensures ∙ sym (bits_walk t here ∙ ap (λ (v : Bool). v && part t here) (sym r.ensures ∙ c.if-not-same_labels.false))
+pub returns-then-same_labels : goal.returns-then-same_labels
+returns-then-same_labels t c =
+    let here = (goal.at.returns-then-same_labels t c).After-bit_octets-size in
+    c.same_part.ensures ∙ sym (bits_walk t here ∙ ap (λ (v : Bool). v && part t here) (sym c.same_labels.ensures ∙ c.if-same_labels.true))

@@ -1,31 +1,33 @@
 -- `names::inside::same_part` meets its contract.
-use Prim.Native.Nat.{ℕ, ◌+◌, ◌-◌, ◌≤◌}
-use mathlib.Core.Path.{◌≡◌, ap, ap₂, ◌∙◌, sym}
+use Prim.Native.Nat.{ℕ, ◌+◌, ◌-◌, ◌≤◌, min}
+use borrow.Author.Tests.{ltb-true, ltb-false}
+use lib.Dec.{ltb}
+use lib.Seq.{take_all, length-take-le}
+use mathlib.Core.Bool.{Bool, true, false}
+use mathlib.Core.Path.{◌≡◌, refl, ap₂, ◌∙◌, sym}
 use mathlib.Core.List.{List}
 use lib.ListN.{length, take, drop, length-drop}
-use lib.Seq.{take_all, length-take-le}
-use Rattle.octets.proofs.OctetLaws.{take_drop_take}
 use native.Mathlib.Omega.{arith}
 use Rattle.octets.specs.Octets.{same}
+use Rattle.octets.proofs.OctetLaws.{take_drop_take}
 use Rattle.names.proofs.inside.same_part.Goals as goal
 
--- a part to the end is all that is left, where less is left than is asked for
-rest_is : (xs : List ℕ) (i n end : ℕ) → i ≤ end → end ≤ length xs → end ≤ i + n → take (end - i) (drop i xs) ≡ take n (drop i (take end xs))
-rest_is xs i n end h k m =
-    let ys = drop i (take end xs) in
-    let l = length-drop i (take end xs) in
-    let z = length-take-le end xs k in
-    sym (take_drop_take (end - i) i end xs (omega arith)) ∙ take_all (end - i) ys (omega arith) ∙ sym (take_all n ys (omega arith))
+-- so many octets from a place on, or as many as there are before the end
+part : (xs : List ℕ) (i n end to : ℕ) → i ≤ end → end ≤ length xs → to ≡ min end (i + n) → take (to - i) (drop i xs) ≡ take n (drop i (take end xs))
+part xs i n end to h k e = sym (take_drop_take (to - i) i end xs (omega arith)) ∙ go (ltb end (i + n)) refl
+  where
+    ys : List ℕ
+    ys = drop i (take end xs)
 
-pub returns-then-e-end : goal.returns-then-e-end
-returns-then-e-end c =
-    let a = c.args in
-    let e : a.i + a.size - a.i ≡ a.size = omega arith in
-    let part : (xs : List ℕ) → take (a.i + a.size - a.i) (drop a.i xs) ≡ take a.size (drop a.i (take a.end xs)) =
-    λ xs. ap (λ (n : ℕ). take n (drop a.i xs)) e ∙ sym (take_drop_take a.size a.i a.end xs (omega arith)) in
-    c.equal.ensures ∙ ap₂ same (part a.a.now) (part a.b.now)
+    go : (t : Bool) → ltb end (i + n) ≡ t → take (to - i) ys ≡ take n ys
+    go true f =
+        let b = ltb-true end (i + n) f in
+        let l = length-drop i (take end xs) in
+        let z = length-take-le end xs k in
+        take_all (to - i) ys (omega arith) ∙ sym (take_all n ys (omega arith))
+    go false f = let b = ltb-false end (i + n) f in let m : to - i ≡ n = omega arith in rw m
 
 pub returns : goal.returns
 returns c =
     let a = c.args in
-    c.equal-2.ensures ∙ ap₂ same (rest_is a.a.now a.i a.size a.end (omega arith) (omega arith) (omega arith)) (rest_is a.b.now a.i a.size a.end (omega arith) (omega arith) (omega arith))
+    c.equal.ensures ∙ ap₂ same (part a.a.now a.i a.size a.end c.min-to.result (omega arith) (omega arith) c.min-to.ensures) (part a.b.now a.i a.size a.end c.min-to.result (omega arith) (omega arith) c.min-to.ensures)
