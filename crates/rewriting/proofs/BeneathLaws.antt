@@ -1,11 +1,13 @@
 -- Laws of a name beneath an owner: what is left of the name where the owner would begin, and when it is the owner.
-use Prim.Native.Nat.{ℕ, ◌+◌, ◌-◌, ◌≤◌, ◌<◌}
+use Rattle.std.specs.Prelude.{Option, Some, None}
+use Rattle.std.specs.Bool.{then_some}
+use Prim.Native.Nat.{ℕ, zero, suc, ◌+◌, ◌-◌, ◌≤◌, ◌<◌}
 use mathlib.Core.Path.{◌≡◌, refl, ap, ◌∙◌, sym}
 use mathlib.Core.Bool.{Bool, true, false}
 use mathlib.Core.List.{List, [], ◌∷◌, ◌++◌, append-nil}
 use lib.Dec.{eqb}
 use lib.ListN.{length, get_or, take, drop, length-append, length-drop, take-append-drop}
-use lib.Seq.{drop-append-add, drop_at, take_all}
+use lib.Seq.{drop-append-add, drop_at, take_all, length-take-le}
 use native.Mathlib.Omega.{arith}
 use borrow.Author.Tests.{eqb-true, eqb-false}
 use Rattle.bits.specs.Bits.{octets_for, unpack}
@@ -17,7 +19,7 @@ use Rattle.names.specs.Keys.{key_octets}
 use Rattle.names.proofs.Written.{written}
 use Rattle.names.specs.Merge.{Begins, labels_at}
 use Rattle.octets.proofs.OctetLaws.{small_drop, nil_of_length}
-use Rattle.bits.proofs.BitLaws.{unpack_zero, unpack_length}
+use Rattle.bits.proofs.BitLaws.{unpack_zero, unpack_length, unpack_take}
 use Rattle.octets.proofs.SameLaws.{same_eq, same_refl}
 use Rattle.names.proofs.WriteLaws.{written_back, encode_written}
 use Rattle.names.proofs.MergeLaws.{AtBits, at_bits, at_ordinary, begins_inside}
@@ -25,10 +27,9 @@ use Rattle.names.proofs.RoundLaws.{before_append, fit_labels}
 use Rattle.names.proofs.KeyLaws.{key_before, keys_encode, keys_read}
 use Rattle.rewriting.specs.Spots.{units_at, NoBit, Parted, Found, Standing, Fronted}
 use Rattle.rewriting.specs.declared.inside.Spot.{Spot}
-use Rattle.rewriting.specs.declared.inside.Front.{Front}
 use Rattle.rewriting.proofs.BitLaws.{unpack_first}
 use Rattle.rewriting.proofs.SpotLaws.{before_front, before_length, none_left, apart_next, apart_bits}
-use Rattle.rewriting.specs.Rewrite.{below_of}
+use Rattle.rewriting.specs.Rewrite.{below_of, over_zero}
 use Rattle.rewriting.proofs.ApplyLaws.{below_yes, below_no}
 
 -- the labels from a place on, written out, are the octets from there on
@@ -183,32 +184,40 @@ found_ends name j r f s e =
 pub found_parted : (name : List ℕ) (j : ℕ) (r : Spot) → Found name j r → Standing name → Parted name r.end
 found_parted name j r f s = apart_next f.turned.first (labels_at name r.end) (sym (ap (apart false) f.turned.labels) ∙ f.still s.parted)
 
-part_whole : (name : List ℕ) (at : ℕ) → take (length name - at) (drop at name) ≡ drop at name
+pub part_whole : (name : List ℕ) (at : ℕ) → take (length name - at) (drop at name) ≡ drop at name
 part_whole name at = let l = length-drop at name in take_all (length name - at) (drop at name) (omega arith)
 
 -- the leading bits of a name
-pub fronted_bits : (name : List ℕ) (n : ℕ) → Standing name → get_or name 0 0 ≡ 65 → n ≡ count_for (get_or name 1 0) → n ≤ 256 → Fronted name (record { from = 2; bits = n; end = 2 + octets_for n })
+pub fronted_bits : (name octets rest : List ℕ) (n end : ℕ) → Standing name → get_or name 0 0 ≡ 65 → n ≡ count_for (get_or name 1 0) → n ≤ 256 → end ≡ 2 + octets_for n
+    → octets ≡ take (end - 2) (drop 2 name) → rest ≡ take (length name - end) (drop end name) → Fronted name octets n rest
 unfolding units_at units
-fronted_bits name n s f e h =
+fronted_bits name octets rest n end s f e h at_end o r =
     let a = at_bits name 0 n s.begins f e in
     let u = unpack n (drop 2 name) in
     let p : apart false (bits u ∷ labels_at name (2 + octets_for n)) ≡ true = sym (ap (apart false) a.labels) ∙ s.parted in
+    let t : octets ≡ take (octets_for n) (drop 2 name) = o ∙ ap (λ (k : ℕ). take k (drop 2 name)) (omega arith) in
+    let d = length-drop 2 name in
+    let g : u ≡ unpack n octets = unpack_take n (drop 2 name) ∙ ap (unpack n) (sym t) in
     record {
+      end = 2 + octets_for n;
       begins = a.begins;
-      parts = ap units a.labels;
-      sized = a.size;
-      inside = a.inside;
+      left = r ∙ part_whole name end ∙ ap (λ (k : ℕ). drop k name) at_end;
+      parts = ap units a.labels ∙ ap (λ (c : List ℕ). before c (units_at name (2 + octets_for n))) g;
+      sized = ap length (sym g) ∙ a.size;
+      inside = omega (arith, ap length t, length-take-le (octets_for n) (drop 2 name) (omega (arith, a.inside)));
       few = h;
       parted = apart_next (bits u) (labels_at name (2 + octets_for n)) p;
       ends = apart_bits u (labels_at name (2 + octets_for n)) p;
     }
 
-pub fronted_none : (name : List ℕ) → Standing name → (get_or name 0 0 ≡ 65 → ⊥) → Fronted name (record { from = 0; bits = 0; end = 0 })
+pub fronted_none : (name : List ℕ) → Standing name → (get_or name 0 0 ≡ 65 → ⊥) → Fronted name [] 0 name
 unfolding units_at units before
 fronted_none name s f =
-    let z = unpack_zero name in
+    let z = unpack_zero [] in
     record {
+      end = 0;
       begins = s.begins;
+      left = refl;
       parts = ap (λ (c : List ℕ). before c (units_at name 0)) (sym z);
       sized = ap length z;
       inside = omega arith;
@@ -232,8 +241,17 @@ pub record Meeting (name owner : List ℕ) (n m : ℕ) (r : Spot) : Type 0 where
   pub counts : (n ≡ length (units_at name 0)) × (m ≡ length (units_at owner 0)) × (m < n)
 
 -- how many units of the name are below the owner
-abbrev under : List ℕ → List ℕ → ℕ
-under name owner = below_of (units_at owner 0) (units_at name 0)
+abbrev under : List ℕ → List ℕ → Option ℕ
+under name owner = over_zero (below_of (units_at owner 0) (units_at name 0))
+
+over_some : (k : ℕ) → 0 < k → over_zero k ≡ Some k
+unfolding over_zero
+over_some zero h = let z : ⊥ = omega arith in absurd z
+over_some (suc k) h = refl
+
+pub over_none : (k : ℕ) → k ≡ 0 → None ≡ over_zero k
+unfolding over_zero
+over_none k e = rw e
 
 -- the answers
 module _ {name owner : List ℕ} {n m : ℕ} {r : Spot} (q : Meeting name owner n m r) where
@@ -244,14 +262,14 @@ module _ {name owner : List ℕ} {n m : ℕ} {r : Spot} (q : Meeting name owner 
   place : n - m - 1 + 1 ≡ length (units_at name 0) - length (units_at owner 0)
   place = let c = q.counts in omega arith
 
-  yes : keys (drop (n - m - 1 + 1) (units_at name 0)) ≡ keys (units_at owner 0) → n - m ≡ under name owner
+  yes : keys (drop (n - m - 1 + 1) (units_at name 0)) ≡ keys (units_at owner 0) → Some (n - m) ≡ under name owner
   yes d =
       let c = q.counts in
       let e : n - m ≡ length (units_at name 0) - length (units_at owner 0) = omega arith in
-      e ∙ sym (below_yes (units_at owner 0) (units_at name 0) (rw (← place) d))
+      sym (ap over_zero (below_yes (units_at owner 0) (units_at name 0) (rw (← place) d) ∙ sym e) ∙ over_some (n - m) (omega arith))
 
-  no : (keys (drop (n - m - 1 + 1) (units_at name 0)) ≡ keys (units_at owner 0) → ⊥) → 0 ≡ under name owner
-  no d = sym (below_no (units_at owner 0) (units_at name 0) (λ h. d (rw place h)))
+  no : (keys (drop (n - m - 1 + 1) (units_at name 0)) ≡ keys (units_at owner 0) → ⊥) → None ≡ under name owner
+  no d = over_none (below_of (units_at owner 0) (units_at name 0)) (below_no (units_at owner 0) (units_at name 0) (λ h. d (rw place h)))
 
   tail : Parted name r.end
   tail = found_parted name (n - m - 1) r q.found q.standing.0
@@ -260,81 +278,80 @@ module _ {name owner : List ℕ} {n m : ℕ} {r : Spot} (q : Meeting name owner 
   abbrev left : List ℕ
   left = take (length name - r.end) (drop r.end name)
 
-  pub edge_kept : r.left + 1 ≡ r.units → same (key_octets left) (key_octets owner) ≡ true → n - m ≡ under name owner
-  edge_kept e h =
+  pub edge : r.left + 1 ≡ r.units → (b : Bool) → same (key_octets left) (key_octets owner) ≡ b → then_some b (n - m) ≡ under name owner
+  edge e true h =
       yes (ap keys (found_edge name (n - m - 1) r q.found e)
       ∙ edge_yes name owner r.end 0 q.found.turned.begins q.standing.1.begins q.small.0 q.small.1 tail q.standing.1.parted (rw (part_whole name r.end) at h))
-
-  pub edge_none : r.left + 1 ≡ r.units → same (key_octets left) (key_octets owner) ≡ false → 0 ≡ under name owner
-  edge_none e h =
+  edge e false h =
       no (λ d. edge_no name owner r.end 0 q.found.turned.begins q.standing.1.begins q.small.0 q.small.1 tail q.standing.1.parted
       (rw (part_whole name r.end) at h) (ap keys (sym (found_edge name (n - m - 1) r q.found e)) ∙ d))
 
 -- the owner's place is inside a label, and the bits that the owner begins with are known
-pub record Inside (name owner : List ℕ) (n m : ℕ) (r : Spot) (g : Front) : Type 0 where
+pub record Inside (name owner : List ℕ) (n m : ℕ) (r : Spot) (octets : List ℕ) (count : ℕ) (rest : List ℕ) : Type 0 where
   pub met : Meeting name owner n m r
-  pub fronted : Fronted owner g
+  pub fronted : Fronted owner octets count rest
   pub inner : r.left + 1 ≡ r.units → ⊥
 
-module _ {name owner : List ℕ} {n m : ℕ} {r : Spot} {g : Front} (k : Inside name owner n m r g) where
+pub inside : {name owner : List ℕ} {n m : ℕ} {r : Spot} {octets : List ℕ} {count : ℕ} {rest : List ℕ} → Meeting name owner n m r → Fronted owner octets count rest
+    → (r.left + 1 ≡ r.units → ⊥) → Inside name owner n m r octets count rest
+inside m f i = record { met = m; fronted = f; inner = i }
+
+module _ {name owner : List ℕ} {n m : ℕ} {r : Spot} {octets : List ℕ} {count : ℕ} {rest : List ℕ} (k : Inside name owner n m r octets count rest) where
   -- the bits left of the label, and the owner's
   abbrev mine : List ℕ
   mine = unpack (r.units - (r.left + 1)) (drop (r.at + 2) name)
 
   abbrev theirs : List ℕ
-  theirs = unpack g.bits (drop g.from owner)
+  theirs = unpack count octets
 
   -- what is left of the name is the owner: then the bits are the same, and the rest
-  matched : keys (drop (n - m - 1 + 1) (units_at name 0)) ≡ keys (units_at owner 0) → (mine ≡ theirs) × (keys (units_at name r.end) ≡ keys (units_at owner g.end))
+  matched : keys (drop (n - m - 1 + 1) (units_at name 0)) ≡ keys (units_at owner 0) → (mine ≡ theirs) × (keys (units_at name r.end) ≡ keys (units_at owner k.fronted.end))
   matched d =
       let f = k.met.found in
-      run_same mine theirs (keys (units_at name r.end)) (keys (units_at owner g.end))
-      (no_bit_keys (units_at name r.end) (found_ends name (n - m - 1) r f k.met.standing.0 k.inner)) (no_bit_keys (units_at owner g.end) k.fronted.ends)
+      let e = k.fronted.end in
+      run_same mine theirs (keys (units_at name r.end)) (keys (units_at owner e))
+      (no_bit_keys (units_at name r.end) (found_ends name (n - m - 1) r f k.met.standing.0 k.inner)) (no_bit_keys (units_at owner e) k.fronted.ends)
       (sym (key_before mine (units_at name r.end)) ∙ ap keys (sym (found_inside name (n - m - 1) (r.units - (r.left + 1)) r f k.inner refl)) ∙ d
-      ∙ ap keys k.fronted.parts ∙ key_before theirs (units_at owner g.end))
+      ∙ ap keys k.fronted.parts ∙ key_before theirs (units_at owner e))
 
   -- the bits that are left of the label lie within the name
   pub bits_within : r.at + 2 + octets_for r.units ≤ length name
   bits_within = (found_bits name (n - m - 1) r k.met.found k.inner).0.inside
 
-  pub inside_count : (r.left + 1 + g.bits ≡ r.units → ⊥) → 0 ≡ under name owner
+  pub inside_count : (r.left + 1 + count ≡ r.units → ⊥) → None ≡ under name owner
   inside_count h = no k.met (λ d. h (go d))
     where
-      go : keys (drop (n - m - 1 + 1) (units_at name 0)) ≡ keys (units_at owner 0) → r.left + 1 + g.bits ≡ r.units
+      go : keys (drop (n - m - 1 + 1) (units_at name 0)) ≡ keys (units_at owner 0) → r.left + 1 + count ≡ r.units
       go d =
           let l = length-drop (r.at + 2) name in
           let b : length mine ≡ r.units - (r.left + 1) = unpack_length (r.units - (r.left + 1)) (drop (r.at + 2) name) (omega (arith, bits_within)) in
           let e = ap length (matched d).0 in
           omega (arith, k.fronted.sized, k.met.found.within, b, e)
 
-  module _ (t : r.left + 1 + g.bits ≡ r.units) where
-    size : r.units - (r.left + 1) ≡ g.bits
+  module _ (t : r.left + 1 + count ≡ r.units) where
+    size : r.units - (r.left + 1) ≡ count
     size = omega arith
 
-    pub inside_bits : same (unpack g.bits (drop (r.at + 2) name)) theirs ≡ false → 0 ≡ under name owner
+    pub inside_bits : same (unpack count (drop (r.at + 2) name)) theirs ≡ false → None ≡ under name owner
     inside_bits h =
         no k.met (λ d.
-        let e : unpack g.bits (drop (r.at + 2) name) ≡ theirs = ap (λ (i : ℕ). unpack i (drop (r.at + 2) name)) (sym size) ∙ (matched d).0 in
+        let e : unpack count (drop (r.at + 2) name) ≡ theirs = ap (λ (i : ℕ). unpack i (drop (r.at + 2) name)) (sym size) ∙ (matched d).0 in
         clash (sym (ap (λ (ys : List ℕ). same ys theirs) e ∙ same_refl theirs) ∙ h))
 
-    -- what is left of the owner after its bits
-    abbrev theirs_left : List ℕ
-    theirs_left = take (length owner - g.end) (drop g.end owner)
+    -- what is left of the name and of the owner after the bits
+    ends_same : (b : Bool) → same (key_octets (left k.met)) (key_octets rest) ≡ b → same (key_octets (drop r.end name)) (key_octets (drop k.fronted.end owner)) ≡ b
+    ends_same b h = rw (part_whole name r.end, k.fronted.left) at h
 
-    pub inside_rest : same (key_octets (left k.met)) (key_octets theirs_left) ≡ false → 0 ≡ under name owner
-    inside_rest h =
+    pub inside_rest : same (unpack count (drop (r.at + 2) name)) theirs ≡ true → (b : Bool) → same (key_octets (left k.met)) (key_octets rest) ≡ b → then_some b (n - m) ≡ under name owner
+    inside_rest h true e =
         let q = k.met in
         let w = k.fronted in
-        no q (λ d. edge_no name owner r.end g.end q.found.turned.begins w.begins q.small.0 q.small.1 (tail q) w.parted
-        (rw (part_whole name r.end, part_whole owner g.end) at h) (matched d).1)
-
-    pub inside_kept : same (unpack g.bits (drop (r.at + 2) name)) theirs ≡ true → same (key_octets (left k.met)) (key_octets theirs_left) ≡ true → n - m ≡ under name owner
-    inside_kept h e =
-        let q = k.met in
-        let w = k.fronted in
-        let v = edge_yes name owner r.end g.end q.found.turned.begins w.begins q.small.0 q.small.1 (tail q) w.parted
-        (rw (part_whole name r.end, part_whole owner g.end) at e) in
-        let b = same_eq (unpack g.bits (drop (r.at + 2) name)) theirs h in
+        let v = edge_yes name owner r.end w.end q.found.turned.begins w.begins q.small.0 q.small.1 (tail q) w.parted (ends_same true e) in
+        let b = same_eq (unpack count (drop (r.at + 2) name)) theirs h in
         yes q
-        (ap keys (found_inside name (n - m - 1) g.bits r q.found k.inner (sym size) ∙ ap (λ (c : List ℕ). before c (units_at name r.end)) b)
-        ∙ key_before theirs (units_at name r.end) ∙ ap (before theirs) v ∙ sym (key_before theirs (units_at owner g.end)) ∙ ap keys (sym w.parts))
+        (ap keys (found_inside name (n - m - 1) count r q.found k.inner (sym size) ∙ ap (λ (c : List ℕ). before c (units_at name r.end)) b)
+        ∙ key_before theirs (units_at name r.end) ∙ ap (before theirs) v ∙ sym (key_before theirs (units_at owner w.end)) ∙ ap keys (sym w.parts))
+    inside_rest h false e =
+        let q = k.met in
+        let w = k.fronted in
+        no q (λ d. edge_no name owner r.end w.end q.found.turned.begins w.begins q.small.0 q.small.1 (tail q) w.parted (ends_same false e) (matched d).1)

@@ -1,17 +1,19 @@
 -- Laws of bits compared octet by octet, and of the first bits of a label.
 use Prim.Native.Nat.{ℕ, zero, suc, ◌+◌, ◌-◌, ◌*◌, ◌/◌, ◌%◌, ◌^◌, ◌≤◌, ◌<◌, min}
-use mathlib.Core.Path.{◌≡◌, refl, ap, ◌∙◌, sym}
-use mathlib.Core.Bool.{Bool, true, false}
+use mathlib.Core.Path.{◌≡◌, refl, ap, ap₂, ◌∙◌, sym}
+use mathlib.Core.Bool.{Bool, true, false, not}
 use mathlib.Core.List.{List, [], ◌∷◌, ◌++◌, append-nil, head-eq_of_cons-eq, tail-eq_of_cons-eq}
 use lib.Dec.{eqb, ltb}
 use lib.ListN.{length, get_or, take, drop}
-use lib.Seq.{take-nil, take-append-le, take-append-add, take_at, drop-cons}
+use lib.Seq.{take-nil, take-append-le, take-append-add, take_at, drop_at, drop-cons}
 use lib.Pow.{shr-shr, shr_lt, mod-pow-add}
 use native.Mathlib.Omega.{arith}
 use native.Mathlib.Nat.{mod-eq_of_lt}
 use borrow.Author.Tests.{eq-eqb, eqb-true, eqb-false, ltb-true, ltb-false}
 use Rattle.bits.specs.Bits.{bits_of, unpack}
-use Rattle.octets.specs.Octets.{same_by, same}
+use Rattle.octets.specs.Octets.{same_by, same, Small}
+use Rattle.std.specs.Str.{bytes_eq}
+use Rattle.std.proofs.lemmas.Slice.Eq.{bytes_eq-Decides}
 use Rattle.bits.proofs.BitLaws.{bits_length, bits_split, unpack_zero, unpack_octet}
 use Rattle.bits.proofs.UnpackLaws.{unpack_top}
 use Rattle.octets.proofs.SameLaws.{same_eq, same_refl}
@@ -77,74 +79,98 @@ bits_differ m x y p q h e = h (sym (mod-eq_of_lt p) ∙ bits_equal m x y e ∙ m
 unpack_last : (n v : ℕ) (w : List ℕ) → n < 8 → unpack n (v ∷ w) ≡ bits_of n (v / 2 ^ (8 - n)) ++ []
 unpack_last n v w h = unpack_top n v w h ∙ sym (append-nil (bits_of n (v / 2 ^ (8 - n))))
 
--- bits compared octet by octet
-module _ (a b : List ℕ) (x y n : ℕ) (p : x < length a) (q : y < length b) where
-  abbrev u : ℕ
-  u = get_or a x 0
+top_same : (n u v : ℕ) → n < 8 → u < 256 → v < 256 → eqb (u / 2 ^ (8 - n)) (v / 2 ^ (8 - n)) ≡ same (bits_of n (u / 2 ^ (8 - n)) ++ []) (bits_of n (v / 2 ^ (8 - n)) ++ [])
+top_same n u v h s t = go (eqb (u / 2 ^ (8 - n)) (v / 2 ^ (8 - n))) refl
+  where
+    small : (w : ℕ) → w < 256 → w / 2 ^ (8 - n) < 2 ^ n
+    small w l = let i : 8 ≡ n + (8 - n) = omega arith in let k : w < 2 ^ (n + (8 - n)) = rw (← i) (omega arith) in shr_lt n (8 - n) k
 
-  abbrev v : ℕ
-  v = get_or b y 0
-
-  octet_on : 8 ≤ n → u ≡ v → same (unpack n (drop x a)) (unpack n (drop y b)) ≡ same (unpack (n - 8) (drop (x + 1) a)) (unpack (n - 8) (drop (y + 1) b))
-  octet_on h e =
-      let c : x + 1 ≡ suc x = omega arith in
-      let d : y + 1 ≡ suc y = omega arith in
-      rw (c, d, drop-cons a x 0 p, drop-cons b y 0 q, unpack_octet n u (drop (suc x) a) h, unpack_octet n v (drop (suc y) b) h, e)
-      (same_front (bits_of 8 v) (unpack (n - 8) (drop (suc x) a)) (unpack (n - 8) (drop (suc y) b)))
-
-  octet_off : 8 ≤ n → u < 256 → v < 256 → (u ≡ v → ⊥) → same (unpack n (drop x a)) (unpack n (drop y b)) ≡ false
-  octet_off h s t e =
-      rw (drop-cons a x 0 p, drop-cons b y 0 q, unpack_octet n u (drop (suc x) a) h, unpack_octet n v (drop (suc y) b) h)
-      (same_differ (bits_of 8 u) (bits_of 8 v) (unpack (n - 8) (drop (suc x) a)) (unpack (n - 8) (drop (suc y) b))
-      (bits_length 8 u ∙ sym (bits_length 8 v)) (bits_differ 8 u v (omega arith) (omega arith) (λ i. e (omega arith))))
-
-  octet_last : 0 < n → n < 8 → u < 256 → v < 256 → eqb (u / 2 ^ (8 - n)) (v / 2 ^ (8 - n)) ≡ same (unpack n (drop x a)) (unpack n (drop y b))
-  unfolding same_by
-  octet_last g h s t = rw (drop-cons a x 0 p, drop-cons b y 0 q, unpack_last n u (drop (suc x) a) h, unpack_last n v (drop (suc y) b) h) (go (eqb (u / 2 ^ (8 - n)) (v / 2 ^ (8 - n))) refl)
-    where
-      small : (w : ℕ) → w < 256 → w / 2 ^ (8 - n) < 2 ^ n
-      small w l = let i : 8 ≡ n + (8 - n) = omega arith in let k : w < 2 ^ (n + (8 - n)) = rw (← i) (omega arith) in shr_lt n (8 - n) k
-
-      go : (c : Bool) → eqb (u / 2 ^ (8 - n)) (v / 2 ^ (8 - n)) ≡ c → eqb (u / 2 ^ (8 - n)) (v / 2 ^ (8 - n)) ≡ same (bits_of n (u / 2 ^ (8 - n)) ++ []) (bits_of n (v / 2 ^ (8 - n)) ++ [])
-      go true e = e ∙ sym (ap (λ (i : ℕ). same (bits_of n i ++ []) (bits_of n (v / 2 ^ (8 - n)) ++ [])) (eqb-true (u / 2 ^ (8 - n)) (v / 2 ^ (8 - n)) e)
-          ∙ same_refl (bits_of n (v / 2 ^ (8 - n)) ++ []))
-      go false e = e ∙ sym (same_differ (bits_of n (u / 2 ^ (8 - n))) (bits_of n (v / 2 ^ (8 - n))) [] [] (bits_length n (u / 2 ^ (8 - n)) ∙ sym (bits_length n (v / 2 ^ (8 - n))))
-          (bits_differ n (u / 2 ^ (8 - n)) (v / 2 ^ (8 - n)) (small u s) (small v t) (eqb-false (u / 2 ^ (8 - n)) (v / 2 ^ (8 - n)) e)))
+    go : (c : Bool) → eqb (u / 2 ^ (8 - n)) (v / 2 ^ (8 - n)) ≡ c → eqb (u / 2 ^ (8 - n)) (v / 2 ^ (8 - n)) ≡ same (bits_of n (u / 2 ^ (8 - n)) ++ []) (bits_of n (v / 2 ^ (8 - n)) ++ [])
+    go true e = e ∙ sym (ap (λ (i : ℕ). same (bits_of n i ++ []) (bits_of n (v / 2 ^ (8 - n)) ++ [])) (eqb-true (u / 2 ^ (8 - n)) (v / 2 ^ (8 - n)) e)
+        ∙ same_refl (bits_of n (v / 2 ^ (8 - n)) ++ []))
+    go false e = e ∙ sym (same_differ (bits_of n (u / 2 ^ (8 - n))) (bits_of n (v / 2 ^ (8 - n))) [] [] (bits_length n (u / 2 ^ (8 - n)) ∙ sym (bits_length n (v / 2 ^ (8 - n))))
+        (bits_differ n (u / 2 ^ (8 - n)) (v / 2 ^ (8 - n)) (small u s) (small v t) (eqb-false (u / 2 ^ (8 - n)) (v / 2 ^ (8 - n)) e)))
 
 none_same : (n : ℕ) (xs ys : List ℕ) → n ≡ 0 → same (unpack n xs) (unpack n ys) ≡ true
 unfolding same_by
 none_same n xs ys e = rw (e, unpack_zero xs, unpack_zero ys)
 
--- on the way through n bits from i and from j on: the `left` bits from x and from y on are the same exactly when all are
-pub record Comparing (a b : List ℕ) (i j n x y left : ℕ) : Type 0 where
-  pub first : x + (left + 7) / 8 ≤ length a
-  pub second : y + (left + 7) / 8 ≤ length b
-  pub few : left ≤ 256
-  pub level : same (unpack left (drop x a)) (unpack left (drop y b)) ≡ same (unpack n (drop i a)) (unpack n (drop j b))
+-- the bits of as many whole octets and r bits more: they are the same exactly when the octets are, and the bits after them
+octets_alike : (w r : ℕ) (a b : List ℕ) → w ≤ length a → w ≤ length b → take w a ≡ take w b
+    → same (unpack (8 * w + r) a) (unpack (8 * w + r) b) ≡ same (unpack r (drop w a)) (unpack r (drop w b))
+octets_alike zero r a b h k e = let z : 8 * 0 + r ≡ r = omega arith in rw z
+octets_alike (suc w) r [] b h k e = let z : ⊥ = omega arith in absurd z
+octets_alike (suc w) r (x ∷ a) [] h k e = let z : ⊥ = omega arith in absurd z
+octets_alike (suc w) r (x ∷ a) (y ∷ b) h k e =
+    let n = 8 * suc w + r in
+    let m : n - 8 ≡ 8 * w + r = omega arith in
+    rw (unpack_octet n x a (omega arith), unpack_octet n y b (omega arith), head-eq_of_cons-eq e, m)
+    (same_front (bits_of 8 y) (unpack (8 * w + r) a) (unpack (8 * w + r) b) ∙ octets_alike w r a b (omega arith) (omega arith) (tail-eq_of_cons-eq e))
 
-module _ {a b : List ℕ} {i j n x y left : ℕ} (c : Comparing a b i j n x y left) where
-  -- the octets there, where there is a bit left
-  pub here : 0 < left → x < length a
-  here h = omega (arith, c.first)
+octets_equal : (w r : ℕ) (a b : List ℕ) → Small a → Small b → w ≤ length a → w ≤ length b → unpack (8 * w + r) a ≡ unpack (8 * w + r) b → take w a ≡ take w b
+octets_equal zero r a b s t h k e = refl
+octets_equal (suc w) r [] b s t h k e = let z : ⊥ = omega arith in absurd z
+octets_equal (suc w) r (x ∷ a) [] s t h k e = let z : ⊥ = omega arith in absurd z
+octets_equal (suc w) r (x ∷ a) (y ∷ b) s t h k e =
+    let n = 8 * suc w + r in
+    let m : n - 8 ≡ 8 * w + r = omega arith in
+    let f : bits_of 8 x ++ unpack (8 * w + r) a ≡ bits_of 8 y ++ unpack (8 * w + r) b = rw (unpack_octet n x a (omega arith), unpack_octet n y b (omega arith), m) at e in
+    let front : bits_of 8 x ≡ bits_of 8 y =
+    sym (take_at (bits_of 8 x) (unpack (8 * w + r) a) 8 (bits_length 8 x)) ∙ ap (take 8) f ∙ take_at (bits_of 8 y) (unpack (8 * w + r) b) 8 (bits_length 8 y) in
+    let rest : unpack (8 * w + r) a ≡ unpack (8 * w + r) b =
+    sym (drop_at (bits_of 8 x) (unpack (8 * w + r) a) 8 (bits_length 8 x)) ∙ ap (drop 8) f ∙ drop_at (bits_of 8 y) (unpack (8 * w + r) b) 8 (bits_length 8 y) in
+    let same_head : x ≡ y = omega (arith, bits_equal 8 x y front, s 0, t 0) in
+    cc (same_head, octets_equal w r a b (λ i. s (suc i)) (λ i. t (suc i)) (omega arith) (omega arith) rest)
 
-  pub there : 0 < left → y < length b
-  there h = omega (arith, c.second)
+-- n bits, as the whole octets of them and the bits left
+module _ (n : ℕ) (a b : List ℕ) (p : (n + 7) / 8 ≤ length a) (q : (n + 7) / 8 ≤ length b) where
+  abbrev w : ℕ
+  w = n / 8
 
-  pub comparing_on : 8 ≤ left → get_or a x 0 ≡ get_or b y 0 → Comparing a b i j n (x + 1) (y + 1) (left - 8)
-  comparing_on h e =
-      record {
-        first = omega (arith, c.first);
-        second = omega (arith, c.second);
-        few = omega (arith, c.few);
-        level = sym (octet_on a b x y left (here (omega arith)) (there (omega arith)) h e) ∙ c.level;
-      }
+  abbrev left : ℕ
+  left = n % 8
 
-  pub comparing_off : 8 ≤ left → get_or a x 0 < 256 → get_or b y 0 < 256 → (get_or a x 0 ≡ get_or b y 0 → ⊥) → false ≡ same (unpack n (drop i a)) (unpack n (drop j b))
-  comparing_off h s t e = sym (octet_off a b x y left (here (omega arith)) (there (omega arith)) h s t e) ∙ c.level
+  parts : 8 * w + left ≡ n
+  parts = omega arith
 
-  pub comparing_none : left ≡ 0 → true ≡ same (unpack n (drop i a)) (unpack n (drop j b))
-  comparing_none e = sym (none_same left (drop x a) (drop y b) e) ∙ c.level
+  alike : take w a ≡ take w b → same (unpack left (drop w a)) (unpack left (drop w b)) ≡ same (unpack n a) (unpack n b)
+  alike e = rw parts at (sym (octets_alike w left a b (omega (arith, p)) (omega (arith, q)) e))
 
-  pub comparing_last : 0 < left → left < 8 → get_or a x 0 < 256 → get_or b y 0 < 256
-      → eqb (get_or a x 0 / 2 ^ (8 - left)) (get_or b y 0 / 2 ^ (8 - left)) ≡ same (unpack n (drop i a)) (unpack n (drop j b))
-  comparing_last g h s t = octet_last a b x y left (here g) (there g) g h s t ∙ c.level
+  pub bits_off : Small a → Small b → (take w a ≡ take w b → ⊥) → false ≡ same (unpack n a) (unpack n b)
+  bits_off s t h = go (same (unpack n a) (unpack n b)) refl
+    where
+      go : (c : Bool) → same (unpack n a) (unpack n b) ≡ c → false ≡ same (unpack n a) (unpack n b)
+      go true e = absurd (h (octets_equal w left a b s t (omega (arith, p)) (omega (arith, q)) (rw parts (same_eq (unpack n a) (unpack n b) e))))
+      go false e = sym e
+
+  pub bits_even : take w a ≡ take w b → left ≡ 0 → true ≡ same (unpack n a) (unpack n b)
+  bits_even e z = sym (none_same left (drop w a) (drop w b) z) ∙ alike e
+
+  -- the octets that have the bits left
+  pub left_within : (left ≡ 0 → ⊥) → (w < length a) × (w < length b)
+  left_within h = (omega (arith, p), omega (arith, q))
+
+  abbrev u : ℕ
+  u = get_or a w 0
+
+  abbrev v : ℕ
+  v = get_or b w 0
+
+  pub bits_left : take w a ≡ take w b → (left ≡ 0 → ⊥) → u < 256 → v < 256 → eqb (u / 2 ^ (8 - left)) (v / 2 ^ (8 - left)) ≡ same (unpack n a) (unpack n b)
+  bits_left e g s t =
+      let l = left_within g in
+      let h : left < 8 = omega arith in
+      let d : unpack left (drop w a) ≡ bits_of left (u / 2 ^ (8 - left)) ++ [] = ap (unpack left) (drop-cons a w 0 l.0) ∙ unpack_last left u (drop (suc w) a) h in
+      let f : unpack left (drop w b) ≡ bits_of left (v / 2 ^ (8 - left)) ++ [] = ap (unpack left) (drop-cons b w 0 l.1) ∙ unpack_last left v (drop (suc w) b) h in
+      top_same left u v h s t ∙ sym (ap₂ same d f) ∙ alike e
+
+-- what `!=` says of octets
+pub unlike : (xs ys : List ℕ) (r : Bool) → r ≡ not (bytes_eq xs ys) → r ≡ true → xs ≡ ys → ⊥
+unlike xs ys r e h s = let d = (bytes_eq-Decides xs ys).1 s in cc
+
+pub not_unlike : (xs ys : List ℕ) (r : Bool) → r ≡ not (bytes_eq xs ys) → r ≡ false → xs ≡ ys
+not_unlike xs ys r e h = go (bytes_eq xs ys) refl
+  where
+    go : (b : Bool) → bytes_eq xs ys ≡ b → xs ≡ ys
+    go true d = (bytes_eq-Decides xs ys).0 d
+    go false d = let z : ◌≡◌ {A = Bool} true false = sym (e ∙ ap not d) ∙ h in cc

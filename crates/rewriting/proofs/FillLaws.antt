@@ -1,15 +1,15 @@
 -- An output as it is filled from the left: the octets so far, and zeros after them.
 use Prim.Native.Nat.{ℕ, ◌+◌, ◌-◌, ◌*◌, ◌%◌, ◌≤◌, ◌<◌}
 use mathlib.Core.Path.{◌≡◌, refl, ap, ◌∙◌, sym}
-use mathlib.Core.List.{List, [], ◌∷◌, ◌++◌}
-use lib.ListN.{length, set, take, drop, length-set, take-append-drop}
-use lib.Seq.{paste, length-paste, take-paste, drop-paste, length-take-le}
+use mathlib.Core.List.{List, [], ◌∷◌, ◌++◌, append_assoc}
+use lib.ListN.{length, set, take, drop, length-set, length-append, length-drop, take-append-drop}
+use lib.Seq.{take_at, drop_at, drop-drop, length-take-le}
 use native.Mathlib.Omega.{arith}
 use Rattle.octets.specs.Octets.{blank}
 use Rattle.bits.specs.Bits.{octets_for, pack_from}
 use Rattle.bits.specs.Packing.{Clean, Ready, Pushed, Flushed}
 use Rattle.bits.specs.declared.inside.Packer.{Packer}
-use Rattle.octets.proofs.OctetLaws.{length_blank}
+use Rattle.octets.proofs.OctetLaws.{length_blank, drop_blank}
 use Rattle.bits.proofs.PackLaws.{packer, clean_drop, clean_more, pushed_then}
 use Rattle.names.specs.Standard.{bit_label}
 use Rattle.names.proofs.MergeLaws.{header, run_written}
@@ -20,21 +20,36 @@ pub record Filled (out : List ℕ) (to : ℕ) (text : List ℕ) : Type 0 where
   pub room : length out ≡ 255
   pub within : to ≤ 255
 
-pub filled_none : (out : List ℕ) → out ≡ blank 255 → Filled out 0 []
-filled_none out e =
-    let l : length out ≡ 255 = ap length e ∙ length_blank 255 in
-    record { front = refl; clean = e ∙ ap blank (sym (ap (λ (n : ℕ). n - 0) l)); room = l; within = omega arith }
+-- the first octets written, and the next
+pub filled_first : (out src text : List ℕ) (n : ℕ) → out ≡ blank 255 → src ≡ text → length text ≡ n → n ≤ 255 → Filled (src ++ drop n out) n text
+filled_first out src text n e f l h =
+    let r : length out ≡ 255 = ap length e ∙ length_blank 255 in
+    let a = length-append text (drop n out) in
+    let d = length-drop n out in
+    let m : length (text ++ drop n out) ≡ 255 = omega arith in
+    rw f (record {
+      front = take_at text (drop n out) n l;
+      clean = drop_at text (drop n out) n l ∙ ap (drop n) e ∙ drop_blank n 255 ∙ ap (λ (k : ℕ). blank (k - n)) (sym m);
+      room = m;
+      within = h;
+    })
 
-pub filled_paste : (old new src text : List ℕ) (to n end : ℕ) → Filled old to text → n ≤ length src → end ≤ 255 → end ≡ to + n → new ≡ paste old to src n → Filled new end (text ++ take n src)
-filled_paste old new src text to n end f h k q e =
+pub filled_next : (out text src new : List ℕ) (to k n end : ℕ) → Filled out to text → src ≡ new → length new ≡ n → end ≡ to + n → end ≤ 255 → k ≡ n
+    → Filled (take to out ++ (src ++ drop k (drop to out))) end (text ++ new)
+filled_next out text src new to k n end f s l e h i =
     let r = f.room in
-    let j : to ≤ length old = omega arith in
-    let l : length new ≡ length old = ap length e ∙ length-paste old to src n (omega arith) h in
-    rw q (record {
-      front = ap (take (to + n)) e ∙ take-paste old to src n j h ∙ ap (λ (ys : List ℕ). ys ++ take n src) f.front;
-      clean = ap (drop (to + n)) e ∙ drop-paste old to src n j h ∙ clean_drop old to n f.clean ∙ ap (λ (v : ℕ). blank (v - (to + n))) (sym l);
-      room = l ∙ r;
-      within = omega arith;
+    let t : length text ≡ to = ap length (sym f.front) ∙ length-take-le to out (omega arith) in
+    let c : drop k (drop to out) ≡ blank (255 - end) = ap (λ (m : ℕ). drop m (drop to out)) i ∙ drop-drop n to out ∙ clean_drop out to n f.clean ∙ ap blank (omega arith) in
+    let m : length (text ++ new) ≡ end = length-append text new ∙ omega arith in
+    let w : take to out ++ (src ++ drop k (drop to out)) ≡ (text ++ new) ++ blank (255 - end) =
+    ap (λ (ys : List ℕ). ys ++ (src ++ drop k (drop to out))) f.front ∙ ap (λ (ys : List ℕ). text ++ (ys ++ drop k (drop to out))) s
+    ∙ ap (λ (ys : List ℕ). text ++ (new ++ ys)) c ∙ sym (append_assoc text new (blank (255 - end))) in
+    let z : length ((text ++ new) ++ blank (255 - end)) ≡ 255 = length-append (text ++ new) (blank (255 - end)) ∙ omega (arith, length_blank (255 - end)) in
+    rw w (record {
+      front = take_at (text ++ new) (blank (255 - end)) end m;
+      clean = drop_at (text ++ new) (blank (255 - end)) end m ∙ ap (λ (j : ℕ). blank (j - end)) (sym z);
+      room = z;
+      within = h;
     })
 
 pub filled_header : (out text : List ℕ) (to v w : ℕ) → Filled out to text → to + 2 ≤ 255 → Filled (set (set out to v) (to + 1) w) (to + 2) (text ++ (v ∷ w ∷ []))

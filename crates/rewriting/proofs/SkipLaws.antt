@@ -3,7 +3,7 @@ use Prim.Native.Nat.{ℕ, zero, suc, ◌+◌, ◌-◌, ◌*◌, ◌/◌, ◌%◌
 use mathlib.Core.Path.{◌≡◌, ap, ◌∙◌, sym}
 use mathlib.Core.List.{List, [], ◌∷◌, ◌++◌, append-nil, append_assoc}
 use lib.ListN.{length, get_or, drop, length-drop}
-use lib.Seq.{drop-nil, drop-append-add, drop_at, drop-cons, drop-drop}
+use lib.Seq.{drop-nil, drop-append-add, drop_at, drop-cons}
 use lib.Pow.{field, pow_pos, shr_lt}
 use native.Mathlib.Nat.{mod-lt, zero-add}
 use native.Mathlib.Omega.{arith}
@@ -49,32 +49,31 @@ part_inside s n x xs h =
     ap (drop s) (u ∙ append-nil (bits_of (s + n) y)) ∙ w ∙ ap (λ (i : ℕ). bits_of n (x / 2 ^ i)) a ∙ bits_mod n n (x / 2 ^ k) (omega arith) ∙ ap (bits_of n) (sym g)
 
 -- the three ways to go on after `skip` bits
-module _ (name : List ℕ) (a skip n : ℕ) where
+module _ (octets : List ℕ) (skip n : ℕ) where
   abbrev wanted : List ℕ
-  wanted = drop skip (unpack (skip + n) (drop a name))
+  wanted = drop skip (unpack (skip + n) octets)
 
-  reach : wanted ≡ drop (skip % 8) (unpack (skip % 8 + n) (drop (a + skip / 8) name))
+  reach : wanted ≡ drop (skip % 8) (unpack (skip % 8 + n) (drop (skip / 8) octets))
   reach =
       let e : skip ≡ 8 * (skip / 8) + skip % 8 = omega arith in
-      ap (λ (k : ℕ). drop k (unpack (k + n) (drop a name))) e ∙ unpack_skip (skip / 8) (skip % 8) n (drop a name)
-      ∙ ap (λ (ys : List ℕ). drop (skip % 8) (unpack (skip % 8 + n) ys)) (drop-drop (skip / 8) a name)
+      ap (λ (k : ℕ). drop k (unpack (k + n) octets)) e ∙ unpack_skip (skip / 8) (skip % 8) n octets
 
-  skip_even : skip % 8 ≡ 0 → unpack n (drop (a + skip / 8) name) ≡ wanted
-  skip_even e = let z : 0 + n ≡ n = omega arith in sym (reach ∙ ap (λ (k : ℕ). drop k (unpack (k + n) (drop (a + skip / 8) name))) e ∙ ap (λ (k : ℕ). unpack k (drop (a + skip / 8) name)) z)
+  skip_even : skip % 8 ≡ 0 → unpack n (drop (skip / 8) octets) ≡ wanted
+  skip_even e = let z : 0 + n ≡ n = omega arith in sym (reach ∙ ap (λ (k : ℕ). drop k (unpack (k + n) (drop (skip / 8) octets))) e ∙ ap (λ (k : ℕ). unpack k (drop (skip / 8) octets)) z)
 
-  skip_short : a + skip / 8 < length name → skip % 8 + n ≤ 8 → bits_of n (get_or name (a + skip / 8) 0 % 2 ^ (8 - skip % 8) / 2 ^ (8 - skip % 8 - n)) ≡ wanted
+  skip_short : skip / 8 < length octets → skip % 8 + n ≤ 8 → bits_of n (get_or octets (skip / 8) 0 % 2 ^ (8 - skip % 8) / 2 ^ (8 - skip % 8 - n)) ≡ wanted
   skip_short h k =
-      sym (reach ∙ ap (λ (ys : List ℕ). drop (skip % 8) (unpack (skip % 8 + n) ys)) (drop-cons name (a + skip / 8) 0 h)
-      ∙ part_inside (skip % 8) n (get_or name (a + skip / 8) 0) (drop (suc (a + skip / 8)) name) k)
+      sym (reach ∙ ap (λ (ys : List ℕ). drop (skip % 8) (unpack (skip % 8 + n) ys)) (drop-cons octets (skip / 8) 0 h)
+      ∙ part_inside (skip % 8) n (get_or octets (skip / 8) 0) (drop (suc (skip / 8)) octets) k)
 
-  skip_long : a + skip / 8 < length name → 8 < skip % 8 + n
-      → bits_of (8 - skip % 8) (get_or name (a + skip / 8) 0 % 2 ^ (8 - skip % 8)) ++ unpack (n - (8 - skip % 8)) (drop (a + skip / 8 + 1) name) ≡ wanted
+  skip_long : skip / 8 < length octets → 8 < skip % 8 + n
+      → bits_of (8 - skip % 8) (get_or octets (skip / 8) 0 % 2 ^ (8 - skip % 8)) ++ unpack (n - (8 - skip % 8)) (drop (skip / 8 + 1) octets) ≡ wanted
   skip_long h k =
       let s = skip % 8 in
-      let i = a + skip / 8 in
-      let v = get_or name i 0 in
+      let i = skip / 8 in
+      let v = get_or octets i 0 in
       let m = 8 - s in
-      let w = drop (suc i) name in
+      let w = drop (suc i) octets in
       let b : List ℕ = unpack (n - m) w in
       let e : 8 ≡ s + m = omega arith in
       let t : s + n - 8 ≡ n - m = omega arith in
@@ -84,22 +83,22 @@ module _ (name : List ℕ) (a skip n : ℕ) where
       ∙ ap (λ (ys : List ℕ). ys ++ b) (bits_split s m v) ∙ append_assoc (bits_of s (v / 2 ^ m)) (bits_of m v) b)
       ∙ drop_at (bits_of s (v / 2 ^ m)) (bits_of m v ++ b) s (bits_length s (v / 2 ^ m)) in
       let f : bits_of m (v % 2 ^ m) ≡ bits_of m v = sym (bits_mod m m v (omega arith)) in
-      ap (λ (q : ℕ). bits_of m (v % 2 ^ m) ++ unpack (n - m) (drop q name)) g ∙ ap (λ (ys : List ℕ). ys ++ b) f
-      ∙ sym (reach ∙ ap (λ (ys : List ℕ). drop s (unpack (s + n) ys)) (drop-cons name i 0 h) ∙ o)
+      ap (λ (q : ℕ). bits_of m (v % 2 ^ m) ++ unpack (n - m) (drop q octets)) g ∙ ap (λ (ys : List ℕ). ys ++ b) f
+      ∙ sym (reach ∙ ap (λ (ys : List ℕ). drop s (unpack (s + n) ys)) (drop-cons octets i 0 h) ∙ o)
 
   -- and what is packed by each of them; x is the rest of the octet that is cut
   module _ {old new : List ℕ} {p q : Packer} where
-    pub even_pushed : skip % 8 ≡ 0 → Pushed old new p q (unpack n (drop (a + skip / 8) name)) → Pushed old new p q wanted
+    pub even_pushed : skip % 8 ≡ 0 → Pushed old new p q (unpack n (drop (skip / 8) octets)) → Pushed old new p q wanted
     even_pushed e h = rw (← skip_even e) h
 
-    pub short_pushed : (x : ℕ) → x ≡ get_or name (a + skip / 8) 0 % 2 ^ (8 - skip % 8) → a + skip / 8 < length name → skip % 8 + n ≤ 8
+    pub short_pushed : (x : ℕ) → x ≡ get_or octets (skip / 8) 0 % 2 ^ (8 - skip % 8) → skip / 8 < length octets → skip % 8 + n ≤ 8
         → Pushed old new p q (bits_of n (x / 2 ^ (8 - skip % 8 - n))) → Pushed old new p q wanted
     short_pushed x e l k h = rw (← skip_short l k, ← e) h
 
-    pub long_pushed : {mid : List ℕ} {r : Packer} (x : ℕ) → x ≡ get_or name (a + skip / 8) 0 % 2 ^ (8 - skip % 8) → a + skip / 8 < length name → 8 < skip % 8 + n
-        → Pushed old mid p r (bits_of (8 - skip % 8) x) → Pushed mid new r q (unpack (n - (8 - skip % 8)) (drop (a + skip / 8 + 1) name)) → Pushed old new p q wanted
+    pub long_pushed : {mid : List ℕ} {r : Packer} (x : ℕ) → x ≡ get_or octets (skip / 8) 0 % 2 ^ (8 - skip % 8) → skip / 8 < length octets → 8 < skip % 8 + n
+        → Pushed old mid p r (bits_of (8 - skip % 8) x) → Pushed mid new r q (unpack (n - (8 - skip % 8)) (drop (skip / 8 + 1) octets)) → Pushed old new p q wanted
     long_pushed {mid} {r} x e l k g h =
-        rw (← skip_long l k, ← e) (pushed_then old mid new p r q (bits_of (8 - skip % 8) x) (unpack (n - (8 - skip % 8)) (drop (a + skip / 8 + 1) name)) g h)
+        rw (← skip_long l k, ← e) (pushed_then old mid new p r q (bits_of (8 - skip % 8) x) (unpack (n - (8 - skip % 8)) (drop (skip / 8 + 1) octets)) g h)
 
 -- bits from the first on
 pub skip_none : (old new : List ℕ) (p q : Packer) (n : ℕ) (xs : List ℕ) → Pushed old new p q (drop 0 (unpack (0 + n) xs)) → Pushed old new p q (unpack n xs)

@@ -3,6 +3,8 @@ use Prim.Native.Nat.{ℕ, ◌+◌, ◌-◌, ◌*◌, ◌≤◌, ◌<◌}
 use mathlib.Core.Path.{◌≡◌, refl, ap, ◌∙◌, sym}
 use mathlib.Core.Bool.{Bool, true, false}
 use mathlib.Core.List.{List, [], ◌∷◌, ◌++◌, append_assoc}
+use lib.Dec.{eqb}
+use borrow.Author.Tests.{eqb-true, eqb-false}
 use lib.ListN.{length, get_or, drop, length-append}
 use native.Mathlib.Omega.{arith}
 use native.Mathlib.Nat.{zero-add}
@@ -161,5 +163,10 @@ module _ {name : List ℕ} {j at left : ℕ} (s : Seeking name j at left) where
   pub seeking_found : (end size : ℕ) → Turned name at end size → left < size → Found name j (record { at = at; left = left; end = end; units = size })
   seeking_found end size t h = record { begins = s.begins; turned = t; within = h; passed = s.passed; parts = s.parts; place = s.place; still = s.still; closed = s.closed }
 
-  pub seeking_never : get_or name at 0 ≡ 0 → ⊥
-  seeking_never e = let n = ap length (none_left name at e) in omega (arith, s.enough, n)
+  -- a label is there
+  pub seeking_more : 0 < get_or name at 0
+  seeking_more = go (eqb (get_or name at 0) 0) refl
+    where
+      go : (b : Bool) → eqb (get_or name at 0) 0 ≡ b → 0 < get_or name at 0
+      go true e = let n = ap length (none_left name at (eqb-true (get_or name at 0) 0 e)) in omega (arith, s.enough, n)
+      go false e = omega (arith, eqb-false (get_or name at 0) 0 e)

@@ -1,12 +1,12 @@
 -- What the functions that rewrite a name answer and write: the code's own, nothing that a reader must believe.
-use Rattle.std.specs.Prelude.{ℕ, ◌-◌, Bool, true, false, ◌||◌, List, ◌++◌, ltb, length}
+use Rattle.std.specs.Prelude.{ℕ, Option, Some, None, ◌-◌, Bool, true, false, ◌||◌, List, ◌++◌, ltb, length}
 use Rattle.octets.specs.Octets.{blank}
 use Rattle.names.specs.Standard.{Unit, encode_from, encode}
 use Rattle.rewriting.specs.Rewrite.{long_run, too_large}
 
--- octets as the answer to a rewrite: their length, and the octets with zeros after them; 0 and zeros alone where it is too large
-unfoldable pub fit_length : Bool → List ℕ → ℕ
-fit_length large name = elim large [ true ↦ 0 | false ↦ length name ]
+-- octets as the answer to a rewrite: their length, and the octets with zeros after them; none and zeros alone where it is too large
+unfoldable pub fit_length : Bool → List ℕ → Option ℕ
+fit_length large name = elim large [ true ↦ None | false ↦ Some (length name) ]
 
 unfoldable pub fit_octets : Bool → List ℕ → List ℕ
 unfolding blank
@@ -21,7 +21,7 @@ unfoldable pub overlong : List ℕ → List ℕ → List Unit → Bool
 unfolding long_run joined_of
 overlong front run target = long_run (length run) target || ltb 255 (length (joined_of front run target))
 
-unfoldable pub joined_length : List ℕ → List ℕ → List Unit → ℕ
+unfoldable pub joined_length : List ℕ → List ℕ → List Unit → Option ℕ
 unfolding overlong joined_of fit_length
 joined_length front run target = fit_length (overlong front run target) (joined_of front run target)
 
@@ -30,7 +30,7 @@ unfolding overlong joined_of fit_octets
 joined_out front run target = fit_octets (overlong front run target) (joined_of front run target)
 
 -- the same for a rewritten name by its units
-unfoldable pub spliced_length : List Unit → ℕ
+unfoldable pub spliced_length : List Unit → Option ℕ
 unfolding too_large encode fit_length
 spliced_length us = fit_length (too_large us) (encode us)
 

@@ -6,7 +6,6 @@ use Rattle.labels.specs.Scan.{apart}
 use Rattle.names.specs.Standard.{Unit, label, bit, before, units}
 use Rattle.names.specs.Merge.{Begins, labels_from, labels_at}
 use Rattle.rewriting.specs.declared.inside.Spot.{Spot}
-use Rattle.rewriting.specs.declared.inside.Front.{Front}
 
 -- the units from a place on
 unfoldable pub units_at : List ℕ → ℕ → List Unit
@@ -60,12 +59,14 @@ pub record Standing (name : List ℕ) : Type 0 where
   pub begins : Begins name 0
   pub parted : Parted name 0
 
--- the bits that a name begins with, none for another label, and what follows them
-pub record Fronted (name : List ℕ) (f : Front) : Type 0 where
-  pub begins : Begins name f.end
-  pub parts : units_at name 0 ≡ before (unpack f.bits (drop f.from name)) (units_at name f.end)
-  pub sized : length (unpack f.bits (drop f.from name)) ≡ f.bits
-  pub inside : f.from + octets_for f.bits ≤ length name
-  pub few : f.bits ≤ 256
-  pub parted : Parted name f.end
-  pub ends : NoBit (units_at name f.end)
+-- the bits that a name begins with, none for another label: octets that hold them, how many they are, and what follows them
+pub record Fronted (name octets : List ℕ) (size : ℕ) (rest : List ℕ) : Type 0 where
+  pub end : ℕ
+  pub begins : Begins name end
+  pub left : rest ≡ drop end name
+  pub parts : units_at name 0 ≡ before (unpack size octets) (units_at name end)
+  pub sized : length (unpack size octets) ≡ size
+  pub inside : octets_for size ≤ length octets
+  pub few : size ≤ 256
+  pub parted : Parted name end
+  pub ends : NoBit (units_at name end)

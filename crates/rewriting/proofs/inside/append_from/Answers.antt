@@ -13,10 +13,10 @@ use Rattle.rewriting.proofs.inside.append_from.Goals as goal
 
 -- ---- the octet that is cut, how many bits are left of it, and how many come after them
 abbrev at : Start → ℕ
-at s = s.args.a + s.args.skip / 8
+at s = s.args.skip / 8
 
 abbrev octet : Start → ℕ
-octet s = get_or s.args.name.now (at s) 0
+octet s = get_or s.args.octets.now (at s) 0
 
 abbrev width : Start → ℕ
 width s = 8 - s.args.skip % 8
@@ -27,13 +27,13 @@ more s = s.args.n - width s
 abbrev start : After-low-x → Start
 start c = c.before.before.before.before.before.before
 
-within : (c : After-low-x) → at (start c) < length c.args.name.now
+within : (c : After-low-x) → at (start c) < length c.args.octets.now
 within c = omega (arith, c.requires.n_bound.1, c.if-s-eq0.false)
 
 pub returns-then-s-eq0 : goal.returns-then-s-eq0
 returns-then-s-eq0 c =
     let a = c.args in
-    even_pushed a.name.now a.a a.skip a.n c.if-s-eq0.true c.append.ensures
+    even_pushed a.octets.now a.skip a.n c.if-s-eq0.true c.append.ensures
 
 pub push-requires : goal.push-requires
 push-requires c =
@@ -44,7 +44,7 @@ pub returns-then-n-m : goal.returns-then-n-m
 returns-then-n-m c =
     let here = (goal.at.returns-then-n-m c).After-low-x in
     let a = c.args in
-    short_pushed a.name.now a.a a.skip a.n c.low-x.result c.low-x.ensures (within here) (omega (arith, c.if-n-m.true)) c.push.ensures
+    short_pushed a.octets.now a.skip a.n c.low-x.result c.low-x.ensures (within here) (omega (arith, c.if-n-m.true)) c.push.ensures
 
 pub push-q-requires : goal.push-q-requires
 push-q-requires c =
@@ -72,4 +72,4 @@ pub returns : goal.returns
 returns c =
     let here = (goal.at.returns c).After-low-x in
     let a = c.args in
-    long_pushed a.name.now a.a a.skip a.n c.low-x.result c.low-x.ensures (within here) (omega (arith, c.if-n-m.false)) c.push-q.ensures c.append-2.ensures
+    long_pushed a.octets.now a.skip a.n c.low-x.result c.low-x.ensures (within here) (omega (arith, c.if-n-m.false)) c.push-q.ensures c.append-2.ensures

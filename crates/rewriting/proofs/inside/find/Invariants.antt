@@ -4,8 +4,8 @@ use lib.ListN.{length}
 use Rattle.rewriting.proofs.SpotLaws.{Seeking}
 use Rattle.rewriting.proofs.inside.find.Given as goal
 
-abbrev pub invariant-loop-at : goal.invariant-loop-at
-invariant-loop-at l = Seeking l.name l.j l.at l.left
+abbrev pub invariant-loop-left : goal.invariant-loop-left
+invariant-loop-left l = Seeking l.name l.j l.at l.left
 
-abbrev pub decreases-loop-at : goal.decreases-loop-at
-decreases-loop-at l = length l.name - l.at
+abbrev pub decreases-loop-left : goal.decreases-loop-left
+decreases-loop-left l = length l.name - l.at

@@ -46,6 +46,6 @@ overflow_add-result-3 c = let w = within (goal.at.overflow_add-result-3 c).Start
 pub returns : goal.returns
 returns c =
     let a = c.args in
-    let x = c.wide.result in
+    let x = c.from.result in
     let e : a.at + 1 + x ≡ a.at + (x + 1) = omega arith in
-    rw e (turned_ordinary a.name.now a.at (x + 1) c.requires.begins (λ h. omega (arith, c.requires.nonzero)) c.if-x-eq65.false (omega (arith, c.wide.ensures.0)))
+    rw e (turned_ordinary a.name.now a.at (x + 1) c.requires.begins (λ h. omega (arith, c.requires.nonzero)) c.if-x-eq65.false (omega arith))

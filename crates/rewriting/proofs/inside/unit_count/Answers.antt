@@ -9,20 +9,20 @@ loop-at-init c = counting_start c.args.name.now c.requires
 pub bounds-name-at : goal.bounds-name-at
 bounds-name-at c = begins_inside c.args.name.now c.loop-at.at c.loop-at.invariant.begins
 
-pub pass-t-requires : goal.pass-t-requires
-pass-t-requires c = record { begins = c.loop-at.invariant.begins; nonzero = omega (arith, c.loop-at-test.true) }
+pub pass-turn-requires : goal.pass-turn-requires
+pass-turn-requires c = record { begins = c.loop-at.invariant.begins; nonzero = omega (arith, c.loop-at-test.true) }
 
 pub overflow_add-sum : goal.overflow_add-sum
 overflow_add-sum c =
-    let t = c.pass-t.ensures in
+    let t = c.pass-turn.ensures in
     let w = passed_within t in
     omega (arith, (counting_on c.loop-at.invariant t).few)
 
 pub loop-at-smaller : goal.loop-at-smaller
-loop-at-smaller c = let w = passed_within c.pass-t.ensures in omega arith
+loop-at-smaller c = let w = passed_within c.pass-turn.ensures in omega arith
 
 pub loop-at-preserved : goal.loop-at-preserved
-loop-at-preserved c = counting_on c.loop-at.invariant c.pass-t.ensures
+loop-at-preserved c = counting_on c.loop-at.invariant c.pass-turn.ensures
 
 pub returns : goal.returns
 returns c = counting_end c.loop-at.invariant c.loop-at-test.false
