@@ -1,10 +1,10 @@
 -- The name that a walk starts from: its octets, and that it is in standard form.
-use Prim.Native.Nat.{ℕ, ◌+◌, ◌≤◌}
+use Prim.Native.Nat.{ℕ, ◌≤◌}
 use mathlib.Core.Path.{◌≡◌, refl, ap, ◌∙◌, sym}
 use mathlib.Core.Bool.{false}
 use mathlib.Core.List.{List, [], ◌∷◌, ◌++◌, append-nil}
 use lib.ListN.{length, take, drop, length-append}
-use lib.Seq.{paste, take_all, take_at, drop-append-add}
+use lib.Seq.{take_at, drop_at}
 use native.Mathlib.Omega.{arith}
 use Rattle.octets.specs.Octets.{Small}
 use Rattle.bits.specs.Bits.{unpack, pack_from, pack}
@@ -44,14 +44,11 @@ module _ (address : List ℕ) (s : Small address) (l : length address ≡ 16) wh
       ∙ ap (λ (ys : List ℕ). ys ++ encode_from [] rest) (bit_label_some bs (omega arith)) ∙ rw (n, p)
 
   -- the header, the address and the suffix, written one after the other
-  pub start_written : (x y : List ℕ) → x ≡ 65 ∷ 128 ∷ (take 16 address ++ noughts) → y ≡ paste x 18 suffix 10 → y ≡ encode (start_of address)
+  pub start_written : (x y : List ℕ) → x ≡ address → y ≡ suffix → 65 ∷ 128 ∷ (take 16 (x ++ noughts) ++ (y ++ drop 10 (drop 16 (x ++ noughts)))) ≡ encode (start_of address)
   start_written x y p q =
-      let w : x ≡ 65 ∷ 128 ∷ (address ++ noughts) = p ∙ ap (λ (ys : List ℕ). 65 ∷ 128 ∷ (ys ++ noughts)) (take_all 16 address (omega arith)) in
-      let t = take_at address noughts 16 l in
-      let k : 26 ≡ length address + 10 = omega arith in
-      let d : drop 26 (address ++ noughts) ≡ [] = ap (λ (i : ℕ). drop i (address ++ noughts)) k ∙ drop-append-add address noughts 10 in
-      q ∙ ap (λ (z : List ℕ). paste z 18 suffix 10) w ∙ ap (λ (ys : List ℕ). 65 ∷ 128 ∷ ((ys ++ suffix) ++ drop 26 (address ++ noughts))) t ∙ ap (λ (ys : List ℕ). 65 ∷ 128 ∷ ((address ++ suffix) ++ ys)) d
-      ∙ ap (λ (ys : List ℕ). 65 ∷ 128 ∷ ys) (append-nil (address ++ suffix)) ∙ sym start_octets
+      let t : take 16 (x ++ noughts) ≡ address = ap (λ (ys : List ℕ). take 16 (ys ++ noughts)) p ∙ take_at address noughts 16 l in
+      let d : drop 16 (x ++ noughts) ≡ noughts = ap (λ (ys : List ℕ). drop 16 (ys ++ noughts)) p ∙ drop_at address noughts 16 l in
+      rw (t, d, q) (sym start_octets)
 
   pub length_start : length (encode (start_of address)) ≤ 255
   length_start = let n = ap length start_octets in let a = length-append address suffix in omega arith

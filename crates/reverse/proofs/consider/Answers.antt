@@ -1,61 +1,49 @@
 -- `reverse::consider` meets its contract: a record that is no DNAME changes nothing.
-use Prim.Native.Nat.{ℕ}
 use mathlib.Core.Path.{◌≡◌, sym, ap, ◌∙◌}
 use mathlib.Core.Bool.{true}
-use mathlib.Core.List.{List}
 use native.Mathlib.Omega.{arith}
-use Rattle.octets.specs.Octets.{Small}
+use Prim.Native.Nat.{ℕ}
+use mathlib.Core.List.{List}
 use Rattle.names.specs.Standard.{Unit, units_of}
 use Rattle.plan.specs.Layout.{is_dname, record_at, owner_at}
 use Rattle.plan.proofs.FaultLaws.{type_is, type_not}
-use Rattle.rewriting.specs.Rewrite.{below_of}
+use Rattle.rewriting.specs.Rewrite.{below_of, over_zero}
 use Rattle.rewriting.specs.Spots.{units_at}
 use Rattle.rewriting.proofs.LinkLaws.{form_units}
 use Rattle.reverse.proofs.TableLaws.{owner_form, owner_standing}
-use Rattle.reverse.proofs.ChoiceLaws.{chosen_other, chosen_dname}
-use Rattle.reverse.proofs.consider.Goals.{After-beneath-k, After-owner, Start}
+use Rattle.reverse.proofs.ChoiceLaws.{chosen_other, chosen_none, chosen_some}
+use Rattle.reverse.proofs.consider.Goals.{After-owner, After-beneath}
 use Rattle.reverse.proofs.consider.Goals as goal
 
-abbrev table : Start → List ℕ
-table c = c.args.table.now
-
-abbrev units : Start → List Unit
-units c = units_at c.args.name.now 0
-
-abbrev start : After-owner → Start
-start c = c.before.before.before.before.before.before
-
-small : (c : After-owner) → Small (table (start c))
-small c i = omega (arith, c.shared_slice_known-1.given i)
-
-is_dname_lem : (c : After-owner) → is_dname (record_at (table (start c)) c.args.i) ≡ true
-is_dname_lem c =
-    let k = c.kind in
-    type_is (record_at (table (start c)) c.args.i) (sym k.ensures ∙ c.if-kind-ne-DNAME.false)
-
-abbrev start_of_beneath_k : After-beneath-k → Start
-start_of_beneath_k c = c.before.before.before.before.before.before.before
+dname : (c : After-owner) → is_dname (record_at c.args.table.now c.args.index) ≡ true
+dname c = type_is (record_at c.args.table.now c.args.index) (sym c.kind.ensures ∙ c.if-kind-ne-DNAME.false)
 
 -- how many units of the name are below that owner
-below : (c : After-beneath-k) → c.beneath-k.result ≡ below_of (units_of (owner_at (table (start_of_beneath_k c)) c.args.i)) (units (start_of_beneath_k c))
+below : (c : After-beneath) → c.beneath.result ≡ over_zero (below_of (units_of (owner_at c.args.table.now c.args.index)) (units_at c.args.name.now 0))
 below c =
-    let f = form_units (owner_at (table (start_of_beneath_k c)) c.args.i) (owner_form (table (start_of_beneath_k c)) c.requires.0 c.args.i c.requires.2) in
-    c.beneath-k.ensures ∙ ap (λ (xs : List ℕ). below_of (units_at xs 0) (units (start_of_beneath_k c))) c.owner.ensures
-    ∙ ap (λ (vs : List Unit). below_of vs (units (start_of_beneath_k c))) f
+    let a = c.args in
+    let f = form_units (owner_at a.table.now a.index) (owner_form a.table.now c.requires.0 a.index c.requires.2) in
+    c.beneath.ensures ∙ ap (λ (xs : List ℕ). over_zero (below_of (units_at xs 0) (units_at a.name.now 0))) c.owner.ensures
+    ∙ ap (λ (us : List Unit). over_zero (below_of us (units_at a.name.now 0))) f
 
 pub returns-then-kind-ne-DNAME : goal.returns-then-kind-ne-DNAME
 returns-then-kind-ne-DNAME c =
-    let here = (goal.at.returns-then-kind-ne-DNAME c).Start in
-    let k = c.kind in
-    chosen_other (table here) c.args.name.now c.args.i c.args.b c.requires.3 (type_not (record_at (table here) c.args.i) (λ f. c.if-kind-ne-DNAME.true (k.ensures ∙ f)))
+    let a = c.args in
+    chosen_other a.table.now a.name.now a.index a.best c.requires.3 (type_not (record_at a.table.now a.index) (λ f. c.if-kind-ne-DNAME.true (c.kind.ensures ∙ f)))
 
-pub beneath-k-requires : goal.beneath-k-requires
-beneath-k-requires c =
-    (c.requires.1, rw c.owner.ensures (owner_standing (table (goal.at.beneath-k-requires c).Start) c.requires.0 c.args.i c.requires.2 (small c)))
+pub beneath-requires : goal.beneath-requires
+beneath-requires c =
+    let a = c.args in
+    (c.requires.1, rw c.owner.ensures (owner_standing a.table.now c.requires.0 a.index c.requires.2 (λ i. omega (arith, c.type_inv.table i))))
 
-pub returns : goal.returns
-returns c =
-    let start = (goal.at.returns c).Start in
-    let owner = (goal.at.returns c).After-owner in
-    let beneath_k = (goal.at.returns c).After-beneath-k in
-    rw c.better.ensures (chosen_dname (table start) c.args.name.now c.args.i c.args.b c.requires.3 c.beneath-k.result c.requires.2 (is_dname_lem owner) (below beneath_k))
+pub returns-in-Some : goal.returns-in-Some
+returns-in-Some c =
+    let a = c.args in
+    let here = (goal.at.returns-in-Some c).After-beneath in
+    rw c.better.ensures (chosen_some a.table.now a.name.now a.index a.best c.requires.3 c.requires.2 (dname (goal.at.returns-in-Some c).After-owner) c.in-Some.below (sym c.in-Some.is ∙ below here))
+
+pub returns-in-None : goal.returns-in-None
+returns-in-None c =
+    let a = c.args in
+    let here = (goal.at.returns-in-None c).After-beneath in
+    chosen_none a.table.now a.name.now a.index a.best c.requires.3 c.requires.2 (dname (goal.at.returns-in-None c).After-owner) (sym c.in-None.is ∙ below here)
