@@ -7,7 +7,8 @@ use mathlib.Core.Bool.{Bool, true, false}
 use mathlib.Core.List.{List, [], ◌∷◌, ◌++◌, append-nil}
 use lib.Dec.{eqb}
 use lib.ListN.{length, get_or, take, drop, length-append, length-drop, take-append-drop}
-use lib.Seq.{drop-append-add, drop_at, take_all, length-take-le}
+use Rattle.std.proofs.lemmas.List.{take_rest}
+use lib.Seq.{drop-append-add, drop_at, length-take-le}
 use native.Mathlib.Omega.{arith}
 use borrow.Author.Tests.{eqb-true, eqb-false}
 use Rattle.bits.specs.Bits.{octets_for, unpack}
@@ -184,9 +185,6 @@ found_ends name j r f s e =
 pub found_parted : (name : List ℕ) (j : ℕ) (r : Spot) → Found name j r → Standing name → Parted name r.end
 found_parted name j r f s = apart_next f.turned.first (labels_at name r.end) (sym (ap (apart false) f.turned.labels) ∙ f.still s.parted)
 
-pub part_whole : (name : List ℕ) (at : ℕ) → take (length name - at) (drop at name) ≡ drop at name
-part_whole name at = let l = length-drop at name in take_all (length name - at) (drop at name) (omega arith)
-
 -- the leading bits of a name
 pub fronted_bits : (name octets rest : List ℕ) (n end : ℕ) → Standing name → get_or name 0 0 ≡ 65 → n ≡ count_for (get_or name 1 0) → n ≤ 256 → end ≡ 2 + octets_for n
     → octets ≡ take (end - 2) (drop 2 name) → rest ≡ take (length name - end) (drop end name) → Fronted name octets n rest
@@ -201,7 +199,7 @@ fronted_bits name octets rest n end s f e h at_end o r =
     record {
       end = 2 + octets_for n;
       begins = a.begins;
-      left = r ∙ part_whole name end ∙ ap (λ (k : ℕ). drop k name) at_end;
+      left = r ∙ take_rest name end ∙ ap (λ (k : ℕ). drop k name) at_end;
       parts = ap units a.labels ∙ ap (λ (c : List ℕ). before c (units_at name (2 + octets_for n))) g;
       sized = ap length (sym g) ∙ a.size;
       inside = omega (arith, ap length t, length-take-le (octets_for n) (drop 2 name) (omega (arith, a.inside)));
@@ -281,10 +279,10 @@ module _ {name owner : List ℕ} {n m : ℕ} {r : Spot} (q : Meeting name owner 
   pub edge : r.left + 1 ≡ r.units → (b : Bool) → same (key_octets left) (key_octets owner) ≡ b → then_some b (n - m) ≡ under name owner
   edge e true h =
       yes (ap keys (found_edge name (n - m - 1) r q.found e)
-      ∙ edge_yes name owner r.end 0 q.found.turned.begins q.standing.1.begins q.small.0 q.small.1 tail q.standing.1.parted (rw (part_whole name r.end) at h))
+      ∙ edge_yes name owner r.end 0 q.found.turned.begins q.standing.1.begins q.small.0 q.small.1 tail q.standing.1.parted (rw (take_rest name r.end) at h))
   edge e false h =
       no (λ d. edge_no name owner r.end 0 q.found.turned.begins q.standing.1.begins q.small.0 q.small.1 tail q.standing.1.parted
-      (rw (part_whole name r.end) at h) (ap keys (sym (found_edge name (n - m - 1) r q.found e)) ∙ d))
+      (rw (take_rest name r.end) at h) (ap keys (sym (found_edge name (n - m - 1) r q.found e)) ∙ d))
 
 -- the owner's place is inside a label, and the bits that the owner begins with are known
 pub record Inside (name owner : List ℕ) (n m : ℕ) (r : Spot) (octets : List ℕ) (count : ℕ) (rest : List ℕ) : Type 0 where
@@ -340,7 +338,7 @@ module _ {name owner : List ℕ} {n m : ℕ} {r : Spot} {octets : List ℕ} {cou
 
     -- what is left of the name and of the owner after the bits
     ends_same : (b : Bool) → same (key_octets (left k.met)) (key_octets rest) ≡ b → same (key_octets (drop r.end name)) (key_octets (drop k.fronted.end owner)) ≡ b
-    ends_same b h = rw (part_whole name r.end, k.fronted.left) at h
+    ends_same b h = rw (take_rest name r.end, k.fronted.left) at h
 
     pub inside_rest : same (unpack count (drop (r.at + 2) name)) theirs ≡ true → (b : Bool) → same (key_octets (left k.met)) (key_octets rest) ≡ b → then_some b (n - m) ≡ under name owner
     inside_rest h true e =

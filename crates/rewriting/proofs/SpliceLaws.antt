@@ -114,11 +114,11 @@ module _ {name : List ℕ} {at skip kept : ℕ} {target octets : List ℕ} {coun
   pub begun : (out src : List ℕ) → out ≡ blank 255 → src ≡ front → turn + length rest ≤ 255 → Filled (src ++ drop at out) at front
   begun out src e f h = filled_first out src front at e f front_length (omega arith)
 
-  pub opened : (out src : List ℕ) → out ≡ blank 255 → src ≡ front → turn + length rest ≤ 255
-      → Holds (set (set (src ++ drop at out) at 65) (at + 1) ((count + kept) % 256)) (packer (at + 2) 0 0) []
-  opened out src e f h =
-      packed_none (set (set (src ++ drop at out) at 65) (at + 1) ((count + kept) % 256)) front at ((count + kept) % 256)
-      (filled_header (src ++ drop at out) front at 65 ((count + kept) % 256) (begun out src e f h) (omega arith))
+  pub opened : (out src : List ℕ) (p : Packer) → out ≡ blank 255 → src ≡ front → turn + length rest ≤ 255 → p ≡ packer (at + 2) 0 0
+      → Holds (set (set (src ++ drop at out) at 65) (at + 1) ((count + kept) % 256)) p []
+  opened out src p e f h g =
+      rw g (packed_none (set (set (src ++ drop at out) at 65) (at + 1) ((count + kept) % 256)) front at ((count + kept) % 256)
+      (filled_header (src ++ drop at out) front at 65 ((count + kept) % 256) (begun out src e f h) (omega arith)))
 
   module _ (h : turn + length rest ≤ 255) where
     -- there is room for the target's bits, and then for those kept
@@ -136,13 +136,13 @@ module _ {name : List ℕ} {at skip kept : ℕ} {target octets : List ℕ} {coun
     ends {last = last} {t = t} g d = omega (arith, packed_place g last t d, whole_length)
 
     -- there is room for the rest of the target
-    pub rest_fits : {out last : List ℕ} {p : Packer} {t : ℕ} → Holds out p whole → Flushed out last p t → length last ≡ length out
-        → length (take (turn + length rest - t) (drop t last)) ≡ length rest
-    rest_fits {last = last} {t = t} g d l =
+    pub rest_fits : {out last : List ℕ} {p : Packer} {t : ℕ} (full : ℕ) → full ≡ turn + length rest → Holds out p whole → Flushed out last p t → length last ≡ length out
+        → length (take (full - t) (drop t last)) ≡ length rest
+    rest_fits {last = last} {t = t} full f g d l =
         let e = ends g d in
         let r = g.room in
         let z = length-drop t last in
-        length-take-le (turn + length rest - t) (drop t last) (omega arith) ∙ omega arith
+        length-take-le (full - t) (drop t last) (omega arith) ∙ omega arith
 
     labelled : {out last : List ℕ} {p : Packer} {t : ℕ} → Holds out p whole → Flushed out last p t → length last ≡ length out → Filled last t (front ++ bit_label whole)
     labelled {last = last} {t = t} g d l =
@@ -189,15 +189,15 @@ module _ {name : List ℕ} {at skip kept : ℕ} {target octets : List ℕ} {coun
   over_size h k = answer_large (overlong front run vs) (joined_of front run vs) (rw (joined_long, le-ltb 256 (count + kept) h, joined_length_lem) (lt-ltb 255 size k))
 
   -- the output filled with the front, the run and the rest of the target
-  pub over_none : {out last src : List ℕ} {p : Packer} {t : ℕ} → count + kept ≤ 256 → size ≤ 255 → Holds out p whole → Flushed out last p t → length last ≡ length out → src ≡ rest
-      → JoinAnswer front run vs (Some size) (take t last ++ (src ++ drop (size - t) (drop t last)))
+  pub over_none : {out last src : List ℕ} {p : Packer} {t : ℕ} (full : ℕ) → full ≡ size → count + kept ≤ 256 → size ≤ 255 → Holds out p whole → Flushed out last p t → length last ≡ length out
+      → src ≡ rest → JoinAnswer front run vs (Some full) (take t last ++ (src ++ drop (full - t) (drop t last)))
   unfolding joined_length joined_out overlong
-  over_none {last = last} {src = src} {t = t} h k g d l s =
+  over_none {last = last} {src = src} {t = t} full z h k g d l s =
       let x = ends k g d in
-      let f = filled_next last (front ++ bit_label whole) src rest t (size - t) (length rest) size (labelled k g d l) s refl (omega arith) k (omega arith) in
+      let f = filled_next last (front ++ bit_label whole) src rest t (full - t) (length rest) full (labelled k g d l) s refl (omega arith) (omega arith) (omega arith) in
       let e : (front ++ bit_label whole) ++ rest ≡ joined_of front run vs = append_assoc front (bit_label whole) rest ∙ sym joined_octets in
       let r = answer_fits (overlong front run vs) (joined_of front run vs) (rw (joined_long, le-ltb 256 (count + kept) h, joined_length_lem) (le-ltb 255 size k)) in
-      let w = filled_done _ ((front ++ bit_label whole) ++ rest) size f in
+      let w = filled_done _ ((front ++ bit_label whole) ++ rest) full f in
       (ap Some (w.0 ∙ ap length e) ∙ r.0, w.1 ∙ ap (λ (ys : List ℕ). ys ++ blank (255 - length ys)) e ∙ r.1)
 
 -- no run, and a target

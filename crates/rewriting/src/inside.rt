@@ -1,12 +1,14 @@
 // Names in standard form, cut and put together at a unit: what the walk asks of names. Each function asks something of its caller.
 ghost use Rattle.std.specs.Prelude.{◌≡◌, true, ◌+◌, ◌-◌, ◌/◌, ◌%◌, ◌≤◌, ◌<◌, [], length, get_or, take, drop, MatchOption};
 ghost use Rattle.octets.specs.Octets.{same, blank};
-ghost use Rattle.bits.specs.Bits.{unpack};
+ghost use Rattle.bits.specs.Bits.{octets_for, unpack};
 ghost use Rattle.names.specs.Merge.{Begins};
 ghost use Rattle.bits.specs.Packing.{Ready, Pushed};
 ghost use Rattle.rewriting.specs.Spots.{units_at, Turned, Found, Standing, Fronted};
 ghost use Rattle.rewriting.specs.Rewrite.{below_of, over_zero, rewrite_of};
 ghost use Rattle.rewriting.specs.Splice.{spliced_length, spliced_out, joined_length, joined_out};
+
+use bits::inside::{Packer, low, octets_for};
 
 // One label of a name: where it ends, and how many units it is.
 #[derive(Clone, Copy)]
@@ -42,7 +44,7 @@ fn pass(name: &[u8], at: usize) -> Turn
     if x == 65 {
         let n = labels::inside::count(name[at + 1]);
         return Turn {
-            end: at + 2 + (n + 7) / 8,
+            end: at + 2 + octets_for(n),
             units: n,
         };
     }
@@ -92,7 +94,7 @@ fn find(name: &[u8], j: usize) -> Spot
 
 // Whether the first n bits of two lists of octets are equal.
 fn same_bits(a: &[u8], b: &[u8], n: usize) -> bool
-    requires { ((n + 7) / 8 ≤ length a.now) × ((n + 7) / 8 ≤ length b.now) }
+    requires { (octets_for n ≤ length a.now) × (octets_for n ≤ length b.now) }
     ensures { result ≡ same (unpack n a.now) (unpack n b.now) }
 {
     let whole = n / 8;
@@ -112,7 +114,7 @@ fn leading(name: &[u8]) -> Option<Front<'_>>
         return None;
     }
     let bits = labels::inside::count(name[1]);
-    let end = 2 + (bits + 7) / 8;
+    let end = 2 + octets_for(bits);
     Some(Front {
         octets: &name[2..end],
         bits,
@@ -146,29 +148,23 @@ pub fn beneath(name: &[u8], owner: &[u8]) -> Option<usize>
 }
 
 // n bits of octets, after the first `skip`, packed.
-fn append_from(
-    octets: &[u8],
-    skip: usize,
-    n: usize,
-    out: &mut [u8],
-    p: bits::inside::Packer,
-) -> bits::inside::Packer
-    requires ready { Ready out.old p n }
-    requires n_bound { (skip + n ≤ 256) × ((skip + n + 7) / 8 ≤ length octets.now) }
-    ensures { Pushed out.old out.new p result (drop skip (unpack (skip + n) octets.now)) }
+fn append_from(octets: &[u8], skip: usize, n: usize, out: &mut [u8], packer: Packer) -> Packer
+    requires ready { Ready out.old packer n }
+    requires n_bound { octets_for (skip + n) ≤ length octets.now }
+    ensures { Pushed out.old out.new packer result (drop skip (unpack (skip + n) octets.now)) }
 {
     let i = skip / 8;
-    let s = skip % 8;
-    if s == 0 {
-        return bits::inside::append(octets, i, n, out, p);
+    let cut = skip % 8;
+    if cut == 0 {
+        return packer.append(out, &octets[i..], n);
     }
-    let m = 8 - s;
-    let x = bits::inside::low(octets[i], m);
-    if n <= m {
-        return bits::inside::push(out, p, n, x >> (m - n));
+    let width = 8 - cut;
+    let x = low(octets[i], width);
+    if n <= width {
+        return packer.push(out, n, x >> (width - n));
     }
-    let q = bits::inside::push(out, p, m, x);
-    bits::inside::append(octets, i + 1, n - m, out, q)
+    let packer = packer.push(out, width, x);
+    packer.append(out, &octets[i + 1..], n - width)
 }
 
 // The first k units of a name and then a target's, in standard form with zeros after it; its length, or none where that is too large.
@@ -203,7 +199,7 @@ fn join(
     out: &mut [u8],
 ) -> Option<usize>
     requires standing { Standing target.now × (out.old ≡ blank 255) }
-    requires name_len_bound { (length name.now ≤ 255) × (at + 2 + (skip + kept + 7) / 8 ≤ length name.now) × (skip + kept ≤ 256) × (0 < kept) }
+    requires name_len_bound { (length name.now ≤ 255) × (at + 2 + octets_for (skip + kept) ≤ length name.now) × (skip + kept ≤ 256) × (0 < kept) }
     ensures value { result ≡ joined_length (take at name.now) (drop skip (unpack (skip + kept) (drop (at + 2) name.now))) (units_at target.now 0) }
     ensures out_after { out.new ≡ joined_out (take at name.now) (drop skip (unpack (skip + kept) (drop (at + 2) name.now))) (units_at target.now 0) }
 {
@@ -216,21 +212,17 @@ fn join(
     if 256 < total {
         return None;
     }
-    let size = at + 2 + (total + 7) / 8 + front.rest.len();
+    let size = at + 2 + octets_for(total) + front.rest.len();
     if 255 < size {
         return None;
     }
     out[..at].copy_from_slice(&name[..at]);
     out[at] = 65;
     out[at + 1] = (total % 256) as u8;
-    let p = bits::inside::Packer {
-        to: at + 2,
-        have: 0,
-        value: 0,
-    };
-    let q = append_from(front.octets, 0, front.bits, out, p);
-    let r = append_from(&name[at + 2..], skip, kept, out, q);
-    let t = bits::inside::flush(out, r);
-    out[t..size].copy_from_slice(front.rest);
+    let packer = Packer::new(at + 2);
+    let packer = append_from(front.octets, 0, front.bits, out, packer);
+    let packer = append_from(&name[at + 2..], skip, kept, out, packer);
+    let end = packer.flush(out);
+    out[end..size].copy_from_slice(front.rest);
     Some(size)
 }

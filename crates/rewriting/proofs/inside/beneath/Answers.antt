@@ -4,8 +4,9 @@ use mathlib.Core.Path.{◌∙◌, sym}
 use lib.ListN.{length-drop}
 use native.Mathlib.Omega.{arith}
 use Rattle.rewriting.specs.Spots.{units_at}
+use Rattle.std.proofs.lemmas.List.{take_rest}
 use Rattle.rewriting.proofs.ApplyLaws.{below_few}
-use Rattle.rewriting.proofs.BeneathLaws.{Meeting, met_within, over_none, edge, inside, part_whole, bits_within, inside_count, inside_bits, inside_rest}
+use Rattle.rewriting.proofs.BeneathLaws.{Meeting, met_within, over_none, edge, inside, bits_within, inside_count, inside_bits, inside_rest}
 use Rattle.rewriting.proofs.inside.beneath.Goals.{After-find-spot}
 use Rattle.rewriting.proofs.inside.beneath.Goals as goal
 
@@ -64,13 +65,13 @@ same_bits-requires c =
     let r = c.find-spot.result in
     let d = length-drop (r.at + 2) c.args.name.now in
     let b = bits_within (inside k c.in_ok-front.ensures c.if-spot.false) in
-    (rw part_whole (omega (arith, c.if-spot-front.false)), c.in_ok-front.ensures.inside)
+    (rw take_rest (omega (arith, c.if-spot-front.false)), c.in_ok-front.ensures.inside)
 
 pub returns-then-not-same_bits : goal.returns-then-not-same_bits
 returns-then-not-same_bits c =
     let k = met (goal.at.returns-then-not-same_bits c).After-find-spot in
     let e = sym c.same_bits.ensures ∙ c.if-not-same_bits.true in
-    inside_bits (inside k c.in_ok-front.ensures c.if-spot.false) c.if-spot-front.false (rw part_whole at e)
+    inside_bits (inside k c.in_ok-front.ensures c.if-spot.false) c.if-spot-front.false (rw take_rest at e)
 
 pub slice_bounds-same_key-count-2 : goal.slice_bounds-same_key-count-2
 slice_bounds-same_key-count-2 c = let w = met_within (met (goal.at.slice_bounds-same_key-count-2 c).After-find-spot) in omega arith
@@ -82,4 +83,4 @@ pub returns : goal.returns
 returns c =
     let k = met (goal.at.returns c).After-find-spot in
     let e = sym c.same_bits.ensures ∙ c.if-not-same_bits.false in
-    c.then_some-2.ensures ∙ inside_rest (inside k c.in_ok-front.ensures c.if-spot.false) c.if-spot-front.false (rw part_whole at e) c.same_key-2.result (sym c.same_key-2.ensures)
+    c.then_some-2.ensures ∙ inside_rest (inside k c.in_ok-front.ensures c.if-spot.false) c.if-spot-front.false (rw take_rest at e) c.same_key-2.result (sym c.same_key-2.ensures)

@@ -1,4 +1,5 @@
 -- `rewriting::inside::leading` meets its contract.
+use Prim.Native.Nat.{◌+◌}
 use mathlib.Core.Path.{refl}
 use lib.ListN.{get_or}
 use native.Mathlib.Omega.{arith}
@@ -21,4 +22,4 @@ slice_bounds-result-end c =
     omega (arith, b.inside)
 
 pub returns : goal.returns
-returns c = fronted_bits c.args.name.now _ _ c.count-bits.result _ c.requires c.if-name-ne65.false c.count-bits.ensures.0 c.count-bits.ensures.2 refl refl refl
+returns c = fronted_bits c.args.name.now _ _ c.count-bits.result (2 + c.octets_for-end.result) c.requires c.if-name-ne65.false c.count-bits.ensures.0 c.count-bits.ensures.2 (omega arith) refl refl

@@ -29,13 +29,8 @@ bounds-name-at-then-x-eq65 c =
 pub overflow_add-result : goal.overflow_add-result
 overflow_add-result c = let w = within (goal.at.overflow_add-result c).Start in omega arith
 
-pub overflow_add-result-then-x-eq65-2 : goal.overflow_add-result-then-x-eq65-2
-overflow_add-result-then-x-eq65-2 c =
-    let here = (goal.at.overflow_add-result-then-x-eq65-2 c).Start in
-    let w = within here in omega (arith, c.count-n.ensures.2)
-
 pub returns-then-x-eq65 : goal.returns-then-x-eq65
-returns-then-x-eq65 c = turned_bits c.args.name.now c.args.at c.count-n.result c.requires.begins c.if-x-eq65.true c.count-n.ensures.0
+returns-then-x-eq65 c = rw c.octets_for.ensures (turned_bits c.args.name.now c.args.at c.count-n.result c.requires.begins c.if-x-eq65.true c.count-n.ensures.0)
 
 pub overflow_add-result-2 : goal.overflow_add-result-2
 overflow_add-result-2 c = let w = within (goal.at.overflow_add-result-2 c).Start in omega arith
