@@ -106,7 +106,7 @@ fn consider(table: &[u8], name: &[u8], index: usize, best: Option<Best>) -> Opti
     requires { InOrder table.now × Standing name.now × (index < count_of table.now) × Chosen table.now name.now index best }
     ensures { Chosen table.now name.now (index + 1) result }
 {
-    if plan::inside::kind(table, index) != plan::inside::DNAME {
+    if !plan::inside::is_dname(plan::inside::row(table, index)) {
         return best;
     }
     match rewriting::inside::beneath(name, plan::inside::owner(table, index)) {

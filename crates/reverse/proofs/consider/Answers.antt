@@ -6,7 +6,6 @@ use Prim.Native.Nat.{ℕ}
 use mathlib.Core.List.{List}
 use Rattle.names.specs.Standard.{Unit, units_of}
 use Rattle.plan.specs.Layout.{is_dname, record_at, owner_at}
-use Rattle.plan.proofs.FaultLaws.{type_is, type_not}
 use Rattle.rewriting.specs.Rewrite.{below_of, over_zero}
 use Rattle.rewriting.specs.Spots.{units_at}
 use Rattle.rewriting.proofs.LinkLaws.{form_units}
@@ -16,7 +15,7 @@ use Rattle.reverse.proofs.consider.Goals.{After-owner, After-beneath}
 use Rattle.reverse.proofs.consider.Goals as goal
 
 dname : (c : After-owner) → is_dname (record_at c.args.table.now c.args.index) ≡ true
-dname c = type_is (record_at c.args.table.now c.args.index) (sym c.kind.ensures ∙ c.if-kind-ne-DNAME.false)
+dname c = sym (c.is_dname.ensures ∙ ap is_dname c.row.ensures) ∙ c.if-not-is_dname.false
 
 -- how many units of the name are below that owner
 below : (c : After-beneath) → c.beneath.result ≡ over_zero (below_of (units_of (owner_at c.args.table.now c.args.index)) (units_at c.args.name.now 0))
@@ -26,10 +25,10 @@ below c =
     c.beneath.ensures ∙ ap (λ (xs : List ℕ). over_zero (below_of (units_at xs 0) (units_at a.name.now 0))) c.owner.ensures
     ∙ ap (λ (us : List Unit). over_zero (below_of us (units_at a.name.now 0))) f
 
-pub returns-then-kind-ne-DNAME : goal.returns-then-kind-ne-DNAME
-returns-then-kind-ne-DNAME c =
+pub returns-then-not-is_dname : goal.returns-then-not-is_dname
+returns-then-not-is_dname c =
     let a = c.args in
-    chosen_other a.table.now a.name.now a.index a.best c.requires.3 (type_not (record_at a.table.now a.index) (λ f. c.if-kind-ne-DNAME.true (c.kind.ensures ∙ f)))
+    chosen_other a.table.now a.name.now a.index a.best c.requires.3 (sym (c.is_dname.ensures ∙ ap is_dname c.row.ensures) ∙ c.if-not-is_dname.true)
 
 pub beneath-requires : goal.beneath-requires
 beneath-requires c =
