@@ -7,7 +7,8 @@ use std::io::Read;
 
 // Reads until the buffer is full or the reader ends; how many octets were read. No clause can say what standard input gives. Where the octets that a
 // reader has are known, as many come as there are, at most the buffer's length, and the buffer begins with them; the reader has the others left.
-// What then stands after them in the buffer is open, since `read` does not promise to leave it.
+// What then stands after them in the buffer is open, since `read` does not promise to leave it. The loop counts what each `read` gives, which nothing
+// but `read` itself tells: std's `read_to_end` needs a heap, and `read_exact` fails where the reader ends.
 pub fn fill<R: Read>(reader: &mut R, buf: &mut [u8]) -> io::Result<usize>
     ensures bound { IfOk result (λ n. n ≤ length buf.new) }
     ensures count { IfOk result (λ n. IfSome (R.remaining reader.old) (λ xs. n ≡ min (length xs) (length buf.new))) }
