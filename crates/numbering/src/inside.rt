@@ -40,7 +40,6 @@ struct Names<'a> {
     link: [u16; NAMES],
     places: [u16; NAMES],
     count: usize,
-    ghost in_order: { InOrder table.now },
     ghost listing: { Listing table.now head link places count },
 }
 
@@ -55,7 +54,6 @@ impl<'a> Names<'a> {
 
     // No names yet.
     fn new(table: &'a [u8]) -> Self
-        requires { InOrder table.now }
         ensures { (result.table.now ≡ table.now) × (result.count ≡ 0) }
     {
         Names {
@@ -69,7 +67,7 @@ impl<'a> Names<'a> {
 
     // The names of all records, whose numbers are noted.
     fn meet_all(&mut self, own: &mut [u16], target: &mut [u16])
-        requires start { self.old.count ≡ 0 }
+        requires start { (InOrder self.old.table.now) × (self.old.count ≡ 0) }
         requires room { (count_of self.old.table.now ≤ length own.old) × (count_of self.old.table.now ≤ length target.old) }
         ensures names { names_in self.new ≡ names_of self.old.table.now }
         ensures owners { own.new ≡ filled (own_number self.old.table.now) (count_of self.old.table.now) own.old }
@@ -84,7 +82,8 @@ impl<'a> Names<'a> {
 
     // The number of the owner of the record at an index, which goes to the end of the list if it is not there. Often it is the owner of the record before.
     fn meet_owner(&mut self, index: usize, own: &[u16]) -> u16
-        requires { (index < count_of self.old.table.now) × (self.old.count < max_names) × Before self.old.table.now own.now (names_in self.old) index }
+        requires in_order { InOrder self.old.table.now }
+        requires index_bound { (index < count_of self.old.table.now) × (self.old.count < max_names) × Before self.old.table.now own.now (names_in self.old) index }
         ensures { Meets self.old self.new (number_in (names_in self.old) (owner_at self.old.table.now index)) (meeting (names_in self.old) (owner_at self.old.table.now index)) result }
     {
         if is_again(self.table, index) {
@@ -95,7 +94,8 @@ impl<'a> Names<'a> {
 
     // The number of the target of the record at an index, which goes to the end of the list if it is not there; `NO_TARGET` where there is none.
     fn meet_target(&mut self, index: usize) -> u16
-        requires { (index < count_of self.old.table.now) × (self.old.count < max_names) }
+        requires in_order { InOrder self.old.table.now }
+        requires index_bound { (index < count_of self.old.table.now) × (self.old.count < max_names) }
         ensures { Meets self.old self.new (target_in (names_in self.old) self.old.table.now index) (meeting_target self.old.table.now index (names_in self.old)) result }
     {
         if plan::inside::is_targetless(plan::inside::row(self.table, index)) {

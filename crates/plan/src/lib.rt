@@ -272,12 +272,18 @@ fn first_repeat(table: &[u8]) -> Option<usize>
     ensures { MatchOption result (first_repeat table.now ≡ count_of table.now) (λ j. (j ≡ first_repeat table.now) × (j < count_of table.now)) }
 {
     let mut marks = [0u16; MAX_RECORDS];
-    for j in 0..inside::count(table) {
-        let mark = mark_at(table, j);
-        if repeated(table, j, &marks[..j], mark) {
-            return Some(j);
+    for index in 0..inside::count(table) {
+        let mark = mark_at(table, index);
+        let candidate = Candidate {
+            table,
+            index,
+            earlier: &marks[..index],
+            mark,
+        };
+        if candidate.is_repeat() {
+            return Some(index);
         }
-        marks[j] = mark;
+        marks[index] = mark;
     }
     None
 }
@@ -294,15 +300,56 @@ fn mark_at(table: &[u8], index: usize) -> u16
     0
 }
 
-// Whether record j is a DNAME whose owner an earlier DNAME has: names are compared only where their marks agree.
-fn repeated(table: &[u8], j: usize, marks: &[u16], m: u16) -> bool
-    requires { Ready table.now marks.now j m }
-    ensures { result ≡ repeats table.now j }
-{
-    if !inside::is_dname(inside::row(table, j)) {
-        return false;
+// A record of a table in which no record is at fault, the marks of the records before it, and its own.
+#[derive(Clone, Copy)]
+struct Candidate<'a> {
+    table: &'a [u8],
+    index: usize,
+    earlier: &'a [u16],
+    mark: u16,
+    ghost ready: { Ready table.now earlier.now index mark },
+}
+
+impl Candidate<'_> {
+    // Whether it is a DNAME whose owner an earlier DNAME has: names are compared only where their marks agree.
+    fn is_repeat(self) -> bool
+        ensures { result ≡ repeats self.entry.table.now self.entry.index }
+    {
+        if !inside::is_dname(inside::row(self.table, self.index)) {
+            return false;
+        }
+        has_mark(self.earlier, self.mark) && self.has_twin()
     }
-    has_mark(marks, m) && has_twin(table, j, marks, m)
+
+    // Whether an earlier DNAME has the owner of this DNAME.
+    fn has_twin(self) -> bool
+        requires { is_dname (record_at self.table.now self.index) ≡ true }
+        ensures { result ≡ some (twin self.entry.table.now self.entry.index) self.entry.index }
+    {
+        for i in 0..self.index {
+            if self.is_twin(i) {
+                return true;
+            }
+        }
+        false
+    }
+
+    // Whether record i is a DNAME with the owner of this DNAME.
+    fn is_twin(self, i: usize) -> bool
+        requires { (i < self.index) × (is_dname (record_at self.table.now self.index) ≡ true) }
+        ensures { result ≡ twin self.entry.table.now self.entry.index i }
+    {
+        if self.earlier[i] != self.mark {
+            return false;
+        }
+        if !inside::is_dname(inside::row(self.table, i)) {
+            return false;
+        }
+        names::inside::equal(
+            inside::owner(self.table, i),
+            inside::owner(self.table, self.index),
+        )
+    }
 }
 
 // Whether a mark stands among others. Every one is looked at, which is faster than to stop at the first.
@@ -310,35 +357,6 @@ fn has_mark(marks: &[u16], m: u16) -> bool
     ensures { result ≡ fold (λ met mark. met || (mark == m)) false marks.now }
 {
     marks.iter().fold(false, |met, mark| met | (*mark == m))
-}
-
-// Whether an earlier DNAME has the owner of the DNAME j.
-fn has_twin(table: &[u8], j: usize, marks: &[u16], m: u16) -> bool
-    requires ready { Ready table.now marks.now j m }
-    requires j_value { is_dname (record_at table.now j) ≡ true }
-    ensures { result ≡ some (twin table.now j) j }
-{
-    for i in 0..j {
-        if is_twin(table, i, j, marks, m) {
-            return true;
-        }
-    }
-    false
-}
-
-// Whether record i is a DNAME with the owner of the DNAME j.
-fn is_twin(table: &[u8], i: usize, j: usize, marks: &[u16], m: u16) -> bool
-    requires ready { Ready table.now marks.now j m }
-    requires i_lt_j { (i < j) × (is_dname (record_at table.now j) ≡ true) }
-    ensures { result ≡ twin table.now j i }
-{
-    if marks[i] != m {
-        return false;
-    }
-    if !inside::is_dname(inside::row(table, i)) {
-        return false;
-    }
-    names::inside::equal(inside::owner(table, i), inside::owner(table, j))
 }
 
 pub mod inside;

@@ -5,13 +5,13 @@ use Rattle.plan.specs.Check.{first_repeat}
 use Rattle.plan.proofs.FirstLaws.{first_is, none_first}
 use Rattle.plan.proofs.first_repeat.Goals as goal
 
-pub returns-then-repeated : goal.returns-then-repeated
+pub returns-then-is_repeat : goal.returns-then-is_repeat
 unfolding first_repeat
-returns-then-repeated c =
-    let l = c.loop-j in
+returns-then-is_repeat c =
+    let l = c.loop-index in
     let h = l.invariant in
-    (sym (first_is _ _ l.j (omega (arith, c.count-j-end.ensures)) (sym c.repeated.ensures ∙ c.if-repeated.true) h.none), omega (arith, c.count-j-end.ensures))
+    (sym (first_is _ _ l.index (omega (arith, c.count-index-end.ensures)) (sym c.is_repeat.ensures ∙ c.if-is_repeat.true) h.none), omega (arith, c.count-index-end.ensures))
 
 pub returns : goal.returns
 unfolding first_repeat
-returns c = none_first _ _ (λ i h. c.loop-j.invariant.none i (omega (arith, h, c.count-j-end.ensures)))
+returns c = none_first _ _ (λ i h. c.loop-index.invariant.none i (omega (arith, h, c.count-index-end.ensures)))

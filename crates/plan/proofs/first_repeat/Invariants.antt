@@ -6,5 +6,5 @@ use Rattle.plan.specs.Check.{repeats}
 use Rattle.plan.specs.Marks.{Marked}
 use Rattle.plan.proofs.first_repeat.Given as goal
 
-abbrev pub invariant-loop-j : goal.invariant-loop-j
-invariant-loop-j l = record { marked : Marked l.table l.marks l.j; none : (i : ℕ) → i < l.j → repeats l.table i ≡ false }
+abbrev pub invariant-loop-index : goal.invariant-loop-index
+invariant-loop-index l = record { marked : Marked l.table l.marks l.index; none : (i : ℕ) → i < l.index → repeats l.table i ≡ false }

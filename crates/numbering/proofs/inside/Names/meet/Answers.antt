@@ -40,10 +40,7 @@ pub invariant_of-self : goal.invariant_of-self
 invariant_of-self c =
     let n = c.args.self.now in
     let e = sym c.in_default.ensures ∙ ap (λ (s : List ℕ). number_in (names_in n) (name_in s)) c.slot_at-slot.ensures in
-    record {
-      in_order = n.in_order;
-      listing = listing_put n.listing c.args.place c.requires.1 c.requires.0 e c.bucket_of-bucket.result (c.bucket_of-bucket.ensures ∙ ap bucket_of c.slot_at-slot.ensures);
-    }
+    record { listing = listing_put n.listing c.args.place c.requires.1 c.requires.0 e c.bucket_of-bucket.result (c.bucket_of-bucket.ensures ∙ ap bucket_of c.slot_at-slot.ensures) }
 
 pub returns : goal.returns
 returns c =

@@ -16,15 +16,15 @@ returns-then-is_targetless c =
     record { table = refl; numbered = sym e.1; names_are = sym e.0; most = omega arith }
 
 pub overflow_mul-index : goal.overflow_mul-index
-overflow_mul-index c = omega (arith, order_count c.args.self.now.table.now c.args.self.now.in_order)
+overflow_mul-index c = omega (arith, order_count c.args.self.now.table.now c.requires.in_order)
 
 pub overflow_add-index : goal.overflow_add-index
-overflow_add-index c = omega (arith, order_count c.args.self.now.table.now c.args.self.now.in_order)
+overflow_add-index c = omega (arith, order_count c.args.self.now.table.now c.requires.in_order)
 
 pub meet-requires : goal.meet-requires
 meet-requires c =
     let n = c.args.self.now in
-    (target_named n.table.now n.in_order c.args.index c.requires.0 (sym (c.is_targetless.ensures ∙ ap targetless c.row.ensures) ∙ c.if-is_targetless.false), c.requires.1)
+    (target_named n.table.now c.requires.in_order c.args.index c.requires.index_bound.0 (sym (c.is_targetless.ensures ∙ ap targetless c.row.ensures) ∙ c.if-is_targetless.false), c.requires.index_bound.1)
 
 pub returns : goal.returns
 returns c =

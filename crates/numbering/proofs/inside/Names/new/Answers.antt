@@ -5,4 +5,4 @@ use Rattle.numbering.proofs.inside.Names.new.Goals as goal
 
 pub invariant_of-result : goal.invariant_of-result
 unfolding blank
-invariant_of-result c = record { in_order = c.requires; listing = listing_none c.args.table.now }
+invariant_of-result c = record { listing = listing_none c.args.table.now }

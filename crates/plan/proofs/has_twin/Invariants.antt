@@ -1,9 +1,0 @@
--- `plan::has_twin` meets its contract: none of the records passed is a twin.
-use mathlib.Core.Path.{◌≡◌}
-use Prim.Native.Nat.{ℕ, ◌<◌}
-use mathlib.Core.Bool.{false}
-use Rattle.plan.specs.Check.{twin}
-use Rattle.plan.proofs.has_twin.Given as goal
-
-abbrev pub invariant-loop-i : goal.invariant-loop-i
-invariant-loop-i l = (i : ℕ) → i < l.i → twin l.table l.j i ≡ false
