@@ -26,7 +26,6 @@ code_of Range = 21
 code_of Name = 22
 code_of Space = 23
 
--- the refusal with a number; of a number that no refusal has, the last
 -- the refusal with a number, tried in order; of a number that no refusal has, the last
 unfoldable pub told : ℕ → Refusal
 told n =
