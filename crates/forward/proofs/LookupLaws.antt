@@ -9,7 +9,10 @@ use lib.Seq.{length-take-le, get_or-take}
 use native.Mathlib.Omega.{arith}
 use borrow.Author.Tests.{ne_eqb, eq-eqb, eqb-true}
 use Rattle.octets.specs.Octets.{Small}
-use Rattle.octets.proofs.AnswerLaws.{else_kept, else_later}
+use Rattle.octets.specs.declared.Answer.{Answer}
+use Rattle.octets.specs.Octets.{blank}
+use Rattle.octets.specs.Answers.{refusal}
+use Rattle.octets.proofs.AnswerLaws.{else_kept, else_later, refused_answer, refused_out}
 use Rattle.octets.proofs.BoolLaws.{clash}
 use Rattle.labels.specs.Scan.{well_formed}
 use Rattle.names.specs.Standard.{standard_of}
@@ -31,11 +34,12 @@ use Rattle.plan.specs.Graph.{graph_of}
 use Rattle.numbering.specs.Graph.{owns_numbered, numbered}
 use Rattle.numbering.proofs.NumberLaws.{number_most}
 use Rattle.numbering.proofs.NamesLaws.{own_listed, target_listed, number_standard}
-use Rattle.numbering.proofs.OrderLaws.{names_fit, target_short}
+use Rattle.numbering.proofs.OrderLaws.{names_fit}
 use Rattle.numbering.proofs.GraphLaws.{lookup_renamed, lifetime_number}
-use Rattle.forward.specs.Gather.{no_owner}
-use Rattle.search.specs.Search.{head_of, target_in, length_in, ttl_in, Records, records, target_of, length_of, ttl_of, address_in}
-use Rattle.search.proofs.HeadLaws.{target_back, length_back, ttl_back}
+use Rattle.forward.specs.Gather.{no_owner, Fielded}
+use Rattle.rows.specs.Halves.{whole}
+use Rattle.search.specs.declared.inside.Fields.{Fields}
+use Rattle.search.specs.Search.{Records, records, no_fields, fields_at, target_of, length_of, ttl_of, address_at as address_at'}
 use Rattle.search.specs.Search as search'
 use Rattle.search.specs.Links.{max_names, Numbered}
 use Rattle.search.specs.Answers.{number_of, answer_of, output_of, lives_of}
@@ -56,16 +60,17 @@ module _ {N M : Type 0} (g : Graph N) (h : Graph M) (x : N) (y : M) (w : work_of
   pub lives_like : ((v : List ℕ) → lifetime_of g x v ≡ lifetime_of h y v) → (k room : ℕ) → lives_of g x k room ≡ lives_of h y k room
   lives_like l k room = let f : lifetime_of g x ≡ lifetime_of h y = λ i v. l v i in rw (f, a)
 
--- what the arrays hold once they are filled
-pub record Filled (t owners fields : List ℕ) : Type 0 where
+-- what the owners and the fields are once they are filled
+pub record Filled (t owners : List ℕ) (fields : List Fields) : Type 0 where
   pub owner : (i : ℕ) → i < count_of t → get_or owners i 0 ≡ pick (is_a6 (record_at t i)) (own_number t i) no_owner
-  pub head : (i : ℕ) → i < count_of t → get_or fields i 0 ≡ head_of (target_number t i) (prefix_at t i) (ttl_at t i)
-  pub address : (i : ℕ) → i < count_of t → address_in fields i ≡ address_at t i
+  pub target : (i : ℕ) → i < count_of t → (get_or fields i no_fields).target ≡ target_number t i
+  pub rest : (targets : List ℕ) × Fielded t targets fields (count_of t)
   pub owners_long : count_of t ≤ length owners
+  pub fields_long : count_of t ≤ length fields
 
-module _ (t owners fields : List ℕ) (o : InOrder t) (f : Filled t owners fields) where
+module _ (t owners : List ℕ) (fields : List Fields) (o : InOrder t) (f : Filled t owners fields) where
   abbrev read : Records
-  read = records (take (count_of t) owners) fields
+  read = records (take (count_of t) owners) (take (count_of t) fields)
 
   read_size : length (take (count_of t) owners) ≡ count_of t
   read_size = length-take-le (count_of t) owners f.owners_long
@@ -85,24 +90,31 @@ module _ (t owners fields : List ℕ) (o : InOrder t) (f : Filled t owners field
       let l = target_listed t i h (targetless_on (record_at t i) (λ e. omega arith)) in
       let m = names_fit t o in omega arith
 
-  -- the parts of a head
+  -- the fields of a record
   module _ (i : ℕ) (h : i < count_of t) where
-    brief : prefix_at t i < 256
-    brief = omega (arith, (order_good t o i h).prefix)
+    abbrev own : Fielded t f.rest.0 fields (count_of t)
+    own = f.rest.1
+
+    here : fields_at read i ≡ get_or fields i no_fields
+    here = get_or-take (count_of t) fields i no_fields h
 
     read_target : target_of read i ≡ target_number t i
-    read_target = ap target_in (f.head i h) ∙ target_back (target_number t i) (prefix_at t i) (ttl_at t i) (target_short t o i h) brief
+    read_target = ap (λ (v : Fields). v.target) here ∙ f.target i h
 
     read_length : length_of read i ≡ prefix_at t i
-    read_length = ap length_in (f.head i h) ∙ length_back (target_number t i) (prefix_at t i) (ttl_at t i) (target_short t o i h) brief
+    read_length = ap (λ (v : Fields). v.length) here ∙ own.length i h
 
     read_ttl : ttl_of read i ≡ ttl_at t i
-    read_ttl = ap ttl_in (f.head i h) ∙ ttl_back (target_number t i) (prefix_at t i) (ttl_at t i) (target_short t o i h) brief (omega (arith, (order_good t o i h).lived))
+    read_ttl = ap (λ (v : Fields). v.ttl) here ∙ own.ttl i h
+
+    read_address : address_at' read i ≡ address_at t i
+    read_address = ap (λ (v : Fields). whole v.address) here ∙ own.address i h
 
   -- the search may run over them
   pub read_numbered : Numbered read
   read_numbered = record {
     owned = record { few = rw read_size (order_count t o); owner = λ j h. own_small j (rw read_size at h) };
+    level = length-take-le (count_of t) fields f.fields_long ∙ sym read_size;
     target = λ j h p.
         let k : j < count_of t = rw read_size at h in
         let q : 0 < prefix_at t j = rw (read_length j k) at p in
@@ -124,7 +136,7 @@ module _ (t owners fields : List ℕ) (o : InOrder t) (f : Filled t owners field
   read_renamed = record {
     sizes = sym read_size;
     lengths = λ i h. sym (read_length i h);
-    addresses = λ i h. sym (f.address i h);
+    addresses = λ i h. sym (read_address i h);
     targets = λ i h p. rw (read_target i h) (read_alike (target_number t i) (target_small i h p));
   }
 
@@ -173,6 +185,19 @@ module _ (t name : List ℕ) (limit size room : ℕ) where
     unfolding lookup_number
     lookup_on m = else_later (entry_number t name) _ o ∙ rw m
 
+  -- a refusal, with zeros in both lists
+  pub record Refuses (n : ℕ) : Type 0 where
+    pub answer : refusal n ≡ lookup_answer t name limit size room
+    pub out : blank size ≡ lookup_out t name limit size room
+    pub ttls : blank room ≡ lookup_ttls t name limit size room
+
+  pub refuses : (n : ℕ) → n ≡ lookup_number t name limit size room → (n ≡ 0 → ⊥) → Refuses n
+  refuses n e h = record {
+    answer = refused_answer n _ e h _ _;
+    out = refused_out n _ e h _ size;
+    ttls = refused_out n _ e h _ room;
+  }
+
   -- the search of the standard form answers for the name
   module _ (o : entry_number t name ≡ 0) (s : Small name) (m : misfit size room ≡ false) (n : room ≡ size / 16) where
     abbrev number : ℕ
@@ -196,6 +221,23 @@ module _ (t name : List ℕ) (limit size room : ℕ) where
     lookup_lasting =
         lives_like (graph_of t) (graph_of t) (standard_of name) name (work_standard t name s formed) (addresses_standard t name s formed) (lifetime_standard t name s formed) number (size / 16)
         ∙ λ i. lives_of (graph_of t) name (number_is i) (sym n i)
+
+    -- what the search of the name in standard form leaves
+    pub record Looked (answer : Answer) (out ttls : List ℕ) : Type 0 where
+      pub reply : answer ≡ lookup_answer t name limit size room
+      pub written : out ≡ lookup_out t name limit size room
+      pub lasting : ttls ≡ lookup_ttls t name limit size room
+
+    pub looked : (part : List ℕ) (k : ℕ) (answer : Answer) (out ttls : List ℕ) → part ≡ standard_of name → k ≡ size
+        → answer ≡ answer_of (graph_of t) part (number_of (graph_of t) part limit (k / 16))
+        → out ≡ output_of (graph_of t) part (number_of (graph_of t) part limit (k / 16)) k
+        → ttls ≡ lives_of (graph_of t) part (number_of (graph_of t) part limit (k / 16)) (k / 16)
+        → Looked answer out ttls
+    looked part k answer out ttls p e x y z = record {
+      reply = rw (p, e) at x ∙ lookup_answered;
+      written = rw (p, e) at y ∙ lookup_written;
+      lasting = rw (p, e) at z ∙ lookup_lasting;
+    }
 
 -- an output and a list that fit
 pub misfit_not : (size room : ℕ) → misfit size room ≡ false → (size % 16 ≡ 0) × (room ≡ size / 16)

@@ -1,8 +1,10 @@
--- The records of a table in arrays, as the search reads them: the code's own, nothing that a reader must believe.
+-- The records of a table as the search reads them: the code's own, nothing that a reader must believe.
 use Rattle.std.specs.Prelude.{ℕ, ◌<◌, ◌≡◌, List, get_or}
 use Rattle.chains.specs.Lists.{pick}
 use Rattle.plan.specs.Layout.{is_a6, record_at, prefix_at, address_at, ttl_at}
-use Rattle.search.specs.Search.{head_of, address_in}
+use Rattle.rows.specs.Halves.{whole}
+use Rattle.search.specs.declared.inside.Fields.{Fields}
+use Rattle.search.specs.Search.{no_fields}
 
 -- a number that no name has, for a record that no name owns in the search
 abbrev pub no_owner : ℕ
@@ -12,11 +14,9 @@ no_owner = 2303
 abbrev pub search_owner : List ℕ → List ℕ → ℕ → ℕ
 search_owner t owners i = pick (is_a6 (record_at t i)) (get_or owners i 0) no_owner
 
--- the head of the record at i, with the target of the list
-abbrev pub search_head : List ℕ → List ℕ → ℕ → ℕ
-search_head t targets i = head_of (get_or targets i 0) (prefix_at t i) (ttl_at t i)
-
--- the fields of the first n records are those of the table, with the targets of the list
-pub record Fielded (t targets fields : List ℕ) (n : ℕ) : Type 0 where
-  pub head : (i : ℕ) → i < n → get_or fields i 0 ≡ search_head t targets i
-  pub address : (i : ℕ) → i < n → address_in fields i ≡ address_at t i
+-- the first n fields are those of the table's records, with the targets of the list
+pub record Fielded (t targets : List ℕ) (fields : List Fields) (n : ℕ) : Type 0 where
+  pub target : (i : ℕ) → i < n → (get_or fields i no_fields).target ≡ get_or targets i 0
+  pub length : (i : ℕ) → i < n → (get_or fields i no_fields).length ≡ prefix_at t i
+  pub ttl : (i : ℕ) → i < n → (get_or fields i no_fields).ttl ≡ ttl_at t i
+  pub address : (i : ℕ) → i < n → whole (get_or fields i no_fields).address ≡ address_at t i

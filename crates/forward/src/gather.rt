@@ -1,12 +1,11 @@
-// The records of a table in arrays, as the search reads them (specs/Gather).
-ghost use Rattle.std.specs.Prelude.{◌≡◌, ◌*◌, ◌≤◌, length, eqb};
-ghost use Rattle.chains.specs.Lists.{pick};
-ghost use Rattle.plan.specs.Layout.{a6, count_of};
+// The records of a table as the search reads them (specs/Gather).
+ghost use Rattle.std.specs.Prelude.{◌≡◌, ◌≤◌, length};
+ghost use Rattle.plan.specs.Layout.{count_of};
 ghost use Rattle.numbering.specs.Numbers.{filled};
-ghost use Rattle.search.specs.Search.{max_records};
-ghost use Rattle.forward.specs.Gather.{no_owner, search_owner, Fielded};
+ghost use Rattle.forward.specs.Gather.{search_owner, Fielded};
 
-use search::inside::{FIELDS, HIGHS, LOWS};
+use rows::inside::Halves;
+use search::inside::Fields;
 
 // A number that no name has.
 const NO_OWNER: u16 = 2303;
@@ -16,38 +15,25 @@ pub fn set_owners(table: &[u8], owners: &mut [u16])
     requires { count_of table.now ≤ length owners.old }
     ensures { owners.new ≡ filled (search_owner table.now owners.old) (count_of table.now) owners.old }
 {
-    let n = plan::inside::count(table);
-    let mut i: usize = 0;
-    while i < n {
-        owners[i] = owner_of(plan::inside::kind(table, i), owners[i]);
-        i += 1;
+    for i in 0..plan::inside::count(table) {
+        if !plan::inside::is_a6(plan::inside::row(table, i)) {
+            owners[i] = NO_OWNER;
+        }
     }
 }
 
-// The owner's number for an A6 record, and none for another.
-fn owner_of(kind: u16, number: u16) -> u16
-    ensures { result ≡ pick (eqb kind a6) number no_owner }
-{
-    if kind == plan::inside::A6 {
-        return number;
-    }
-    NO_OWNER
-}
-
-// The fields of the records: the heads, with these targets, and the addresses, two halves each.
-pub fn set_fields(table: &[u8], targets: &[u16], fields: &mut [u64; FIELDS])
-    requires { (count_of table.now ≤ length targets.now) × (count_of table.now ≤ max_records) × (length fields.old ≡ 3 * max_records) }
+// The fields of the records, with these targets.
+pub fn set_fields(table: &[u8], targets: &[u16], fields: &mut [Fields])
+    requires { (count_of table.now ≤ length targets.now) × (count_of table.now ≤ length fields.old) }
     ensures { Fielded table.now targets.now fields.new (count_of table.now) }
 {
-    let n = plan::inside::count(table);
-    let mut i: usize = 0;
-    while i < n {
-        let prefix = plan::inside::prefix(table, i);
-        let ttl = plan::inside::ttl(table, i);
-        let address = plan::inside::address(table, i);
-        fields[i] = search::inside::head_of(targets[i], prefix, ttl);
-        fields[HIGHS + i] = octets::inside::half(&address, 0);
-        fields[LOWS + i] = octets::inside::half(&address, 8);
-        i += 1;
+    for i in 0..plan::inside::count(table) {
+        let row = plan::inside::row(table, i);
+        fields[i] = Fields {
+            address: Halves::at(plan::inside::address_of(row), 0),
+            ttl: plan::inside::ttl_of(row),
+            target: targets[i],
+            length: plan::inside::prefix_of(row),
+        };
     }
 }
