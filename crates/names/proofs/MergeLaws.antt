@@ -1,5 +1,5 @@
 -- Laws of merging: where labels begin, what a run's bits are, and that each step keeps the standard form.
-use Prim.Native.Nat.{ℕ, zero, suc, ◌+◌, ◌-◌, ◌%◌, ◌≤◌, ◌<◌}
+use Prim.Native.Nat.{◌*◌, ℕ, zero, suc, ◌+◌, ◌-◌, ◌%◌, ◌≤◌, ◌<◌}
 use mathlib.Core.Path.{◌≡◌, refl, ap, ◌∙◌, sym}
 use mathlib.Core.Bool.{Bool, true, false}
 use mathlib.Core.List.{List, [], ◌∷◌, ◌++◌, append_assoc, append-nil}
@@ -189,36 +189,41 @@ encode_run run (bits b ∷ ls) =
 abbrev pub placed : ℕ → ℕ → Place
 placed at to = record { at = at; to = to }
 
-run_length : (name : List ℕ) (at n : ℕ) → AtBits name at n → length (run_bits (labels_at name at)) ≡ length (run_bits (labels_at name (at + 2 + octets_for n))) + n
+pub run_length : (name : List ℕ) (at n : ℕ) → AtBits name at n → length (run_bits (labels_at name at)) ≡ length (run_bits (labels_at name (at + 2 + octets_for n))) + n
 unfolding run_bits
 run_length name at n b =
     let R = run_bits (labels_at name (at + 2 + octets_for n)) in
     let bs = unpack n (drop (at + 2) name) in
     ap length (ap run_bits b.labels) ∙ length-append R bs ∙ ap (λ (k : ℕ). length R + k) b.size
 
+-- a run that begins here has bits
+pub run_some : (name : List ℕ) (at : ℕ) → Begins name at → get_or name at 0 ≡ 65 → 0 < length (run_bits (labels_at name at))
+run_some name at b f =
+    let n = count_for (get_or name (at + 1) 0) in
+    let k = at_bits name at n b f refl in
+    omega (arith, run_length name at n k, k.some)
+
 pub run_written : (X A T : List ℕ) (c : ℕ) → 0 < length X → c ≡ length X % 256 → T ≡ (A ++ (65 ∷ c ∷ [])) ++ pack_from 0 0 (X ++ []) → T ≡ A ++ bit_label X
 unfolding pack
 run_written X A T c h e t =
     t ∙ append_assoc A (65 ∷ c ∷ []) (pack_from 0 0 (X ++ [])) ∙ rw (append-nil X, e, bit_label_some X h)
 
-pub moved_run : (name old mid new last : List ℕ) (at n to t : ℕ) (r : Run) (q : Packer) → AtBits name at n → to ≤ at
-    → Ran name old mid (at + 2 + octets_for n) n to r → Pushed mid new r.packer q (unpack n (drop (at + 2) name)) → Flushed new last q t → Moved name old last at to (placed r.end t)
+pub moved_run : (name old mid last : List ℕ) (at to t : ℕ) (r : Run) → 0 < length (run_bits (labels_at name at)) → to ≤ at → length (run_bits (labels_at name at)) + 16 ≤ 8 * (r.end - at)
+    → Ran name old mid at 0 to r → Flushed mid last r.packer t → Moved name old last at to (placed r.end t)
 unfolding encode_at
-moved_run name old mid new last at n to t r q b h f g d =
-    let w = ran_more name old mid new at n 0 n to r q b (omega arith) f g in
+moved_run name old mid last at to t r some h short w d =
     let X = run_bits (labels_at name at) in
-    let l = run_length name at n b in
     let s : encode_at name at ≡ bit_label X ++ encode_at name r.end =
     encode_run [] (labels_at name at) ∙ ap (λ (ys : List ℕ). bit_label ys ++ encode_from [] (units (after_run (labels_at name at)))) (append-nil X)
     ∙ ap (λ (ms : List Label). bit_label X ++ encode_from [] (units ms)) (sym w.after) in
     let c : (0 + length X) % 256 ≡ length X % 256 = ap (λ (k : ℕ). k % 256) (omega arith) in
-    let u : take t last ≡ take to old ++ bit_label X = run_written X (take to old) (take t last) ((0 + length X) % 256) (omega (arith, b.some)) c (d.whole ∙ w.adds []) in
+    let u : take t last ≡ take to old ++ bit_label X = run_written X (take to old) (take t last) ((0 + length X) % 256) some c (d.whole ∙ w.adds []) in
     record {
       same = ap (λ (ys : List ℕ). ys ++ encode_at name r.end) u ∙ append_assoc (take to old) (bit_label X) (encode_at name r.end) ∙ ap (λ (ys : List ℕ). take to old ++ ys) (sym s);
       clean = d.clean;
-      begins = f.begins;
-      low = omega (arith, d.place, w.place, f.fits, f.far);
-      on = omega (arith, f.far);
+      begins = w.begins;
+      low = omega (arith, d.place, w.place, w.far);
+      on = omega (arith, w.far);
     }
 
 -- an ordinary label

@@ -10,7 +10,7 @@ ghost use Rattle.names.specs.Standard.{standard_of, in_standard_form};
 ghost use Rattle.names.specs.Name.{name_of, held, held_of};
 ghost use Rattle.names.specs.Answers.{standard_answer, standard_out};
 ghost use Rattle.bits.specs.Packing.{Clean};
-ghost use Rattle.names.specs.Merge.{Begins, Moved, Ran};
+ghost use Rattle.names.specs.Merge.{Begins, Moved, Ran, labels_at, run_bits};
 
 use bits::inside::Packer;
 use labels::Scanned;
@@ -104,24 +104,27 @@ pub struct Run {
     pub packer: Packer,
 }
 
-// The labels of a run from `at` on, after `sum` bits of it: the header at `to`, then the bits, the right label's first.
+// The run that the bit label at `at` begins, after `sum` bits of it: the header at `to`, then the bits, the right label's first.
 fn pack_run(name: &[u8], at: usize, sum: usize, to: usize, out: &mut [u8]) -> Run
-    requires begins { Begins name.now at }
-    requires sum_bound { (sum ≤ 8 * at) × (to + 2 + (length name.now - at) ≤ length out.old) × Clean out.old to }
-    ensures { Ran name.now out.old out.new at sum to result }
+    requires begins { Begins name.now at × (get_or name.now at 0 ≡ 65) }
+    requires sum_bound { (sum ≤ 8 * at) × (to + (length name.now - at) ≤ length out.old) × Clean out.old to }
+    ensures ran { Ran name.now out.old out.new at sum to result }
+    ensures short { length (run_bits (labels_at name.now at)) + 16 ≤ 8 * (result.end - at) }
 {
-    if name[at] != 65 {
-        out[to] = 65;
-        out[to + 1] = (sum % 256) as u8;
-        return Run {
-            end: at,
-            packer: Packer::new(to + 2),
-        };
-    }
     let bits = labels::inside::count(name[at + 1]);
     let after = at + 2 + bits::inside::octets_for(bits);
-    // Lent on by `[..]` and not by its own name, the slice stays in registers.
-    let run = pack_run(&name[..], after, sum + bits, to, out);
+    let sum = sum + bits;
+    let run = if name[after] == 65 {
+        // Lent on by `[..]` and not by its own name, the slice stays in registers.
+        pack_run(&name[..], after, sum, to, out)
+    } else {
+        out[to] = 65;
+        out[to + 1] = (sum % 256) as u8;
+        Run {
+            end: after,
+            packer: Packer::new(to + 2),
+        }
+    };
     Run {
         end: run.end,
         packer: run.packer.append(out, &name[at + 2..], bits),
@@ -136,13 +139,10 @@ fn next(name: &[u8], at: usize, to: usize, out: &mut [u8]) -> Place
 {
     let x = name[at];
     if x == 65 {
-        let bits = labels::inside::count(name[at + 1]);
-        let after = at + 2 + bits::inside::octets_for(bits);
-        let run = pack_run(name, after, bits, to, out);
-        let packer = run.packer.append(out, &name[at + 2..], bits);
+        let run = pack_run(name, at, 0, to, out);
         return Place {
             at: run.end,
-            to: packer.flush(out),
+            to: run.packer.flush(out),
         };
     }
     let size = usize::from(x) + 1;
