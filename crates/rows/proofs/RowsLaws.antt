@@ -1,6 +1,6 @@
 -- Laws of the rows while an address is sought and put in its place with its lifetime.
-use Rattle.std.proofs.Common.{◌≡◌, ℕ, zero, suc, ◌+◌, ◌-◌, ◌*◌, ◌/◌, ◌<◌, ◌≤◌, min, Bool, true, false, ◌&&◌, ltb, List, [], ◌∷◌, ◌++◌, length, get_or, take, drop, set, sym, refl, ap, ◌∙◌, append_assoc, arith, length-append, length-drop, length-take-le, take_all, take-suc, take-take, drop-drop, drop_at, ltb-true, le-ltb, lt-ltb, le-leb}
-use lib.Seq.{take-append-le, append_snoc, set_at, set-get_or, paste, take-paste, drop-paste}
+use Rattle.std.proofs.Common.{◌≡◌, ℕ, zero, suc, ◌+◌, ◌-◌, ◌*◌, ◌/◌, ◌<◌, ◌≤◌, Bool, true, false, ◌&&◌, ltb, List, [], ◌∷◌, ◌++◌, length, get_or, take, drop, set, sym, refl, ap, ◌∙◌, append_assoc, arith, length-append, length-drop, length-take-le, take_all, take-suc, take-take, drop-drop, drop_at, ltb-true, le-ltb, lt-ltb, le-leb}
+use lib.Seq.{take-append-le, append_snoc, set_at, paste, take-paste, drop-paste}
 use borrow.Author.Tests.{lt-leb}
 use Rattle.std.specs.declared.cmp.Ordering.{Ordering}
 use Rattle.std.specs.declared.cmp.Ordering.TheVariants.{Less, Equal, Greater}
@@ -126,15 +126,6 @@ put_here k c o t h l =
 
 pub put_one : (k c : ℕ) (o : List ℕ) (t : ℕ) → k ≤ c → c < length o → set (copy_within o k c (k + 1)) k t ≡ put_at 1 k c (t ∷ []) o
 put_one k c o t h l = ap (λ (m : List ℕ). set m k t) (copied 1 k c o h) ∙ put_here k c o t h l
-
--- ---- a number lowered
-pub lowered_less : (l : List ℕ) (k t : ℕ) → t < get_or l k 0 → set l k t ≡ lowered k t l
-unfolding lowered
-lowered_less l k t h = ap (set l k) (let e : t ≡ min (get_or l k 0) t = omega arith in e)
-
-pub lowered_none : (l : List ℕ) (k t : ℕ) → get_or l k 0 ≤ t → l ≡ lowered k t l
-unfolding lowered
-lowered_none l k t h = sym (ap (set l k) (let e : min (get_or l k 0) t ≡ get_or l k 0 = omega arith in e) ∙ set-get_or l k 0)
 
 -- ---- keeping an address, case by case
 pub is_same_lem : (o : Ordering) → is_same o ≡ true → o ≡ Equal

@@ -26,9 +26,9 @@ impl Halves {
     fn spot(self) -> usize
         ensures { result < 256 }
     {
-        let a = self.high.wrapping_add(self.low % 2305843009213693952 * 8);
-        let b = a / 4294967296 + a % 4294967296;
-        (b % 4294967296 * 2654435761 / 16777216) as usize % HINTS
+        let a = self.high.wrapping_add(self.low << 3);
+        let b = ((a >> 32) + a % 4294967296) % 4294967296;
+        ((b as u32).wrapping_mul(2654435761) >> 24) as usize
     }
 }
 
@@ -59,9 +59,7 @@ fn lower(lives: &mut [u32], k: usize, ttl: u32)
     requires { k < length lives.old }
     ensures { lives.new ≡ lowered k ttl lives.old }
 {
-    if ttl < lives[k] {
-        lives[k] = ttl;
-    }
+    lives[k] = lives[k].min(ttl);
 }
 
 // The addresses that a search has found. A hint is the row where an address of its spot was last sought; whatever it is, the same is kept.
@@ -111,7 +109,7 @@ impl<'a> Rows<'a> {
         self.full
     }
 
-    // Where an address belongs among the rows.
+    // Where an address belongs among the rows. They are octets of a lent output and no slice of rows, so they are halved here by place.
     fn place(&self, address: Halves) -> usize
         ensures { (result ≡ seek self.now.count self.now.out.now (whole address) 0 self.now.count) × (result ≤ self.now.count) }
     {
