@@ -21,7 +21,10 @@ use Rattle.text.proofs.DecimalLaws.{Passed, passed_turn, passed_stop, stop_other
 use Rattle.text.proofs.PlaceLaws.{past, from_place}
 use Rattle.nametext.specs.Writing.{digits_for}
 use Rattle.nametext.specs.Reading.{paired, digits_in, past_digits, is_counted, count_text, count_in, count_formed, end_in, bit_octets, rest_clear, bits_formed}
-use Rattle.nametext.specs.Places.{refused_part, part_by, bit_part, Quartered}
+use Rattle.nametext.specs.Places.{part_by, bit_part, Quartered}
+use Rattle.std.specs.Prelude.{Ok, Err}
+use Rattle.octets.specs.declared.Refusal.TheVariants.{Form, Range}
+use Rattle.nametext.specs.declared.reading.Part.TheVariants.{Bits}
 use Rattle.nametext.specs.declared.reading.Quarters.{Quarters}
 use Rattle.nametext.proofs.LastLaws.{rest_last}
 use Rattle.text.proofs.LeadingLaws.{leading_few, leading_passes}
@@ -121,40 +124,40 @@ module _ (p : List ℕ) where
       unpack_length (count_in p) (bit_octets p) (omega arith)
 
   -- by its form and its count
-  pub bit_unformed : bits_formed p ≡ false → refused_part 20 ≡ bit_part p
+  pub bit_unformed : bits_formed p ≡ false → Err Form ≡ bit_part p
   unfolding bit_part part_by
   bit_unformed h = rw h
 
-  pub bit_unranged : bits_formed p ≡ true → 256 < count_in p → refused_part 21 ≡ bit_part p
+  pub bit_unranged : bits_formed p ≡ true → 256 < count_in p → Err Range ≡ bit_part p
   unfolding bit_part part_by
   bit_unranged h k = rw (h, lt-leb (count_in p) 256 k)
 
-  pub bit_good : (n : ℕ) → bits_formed p ≡ true → n ≡ count_in p → count_in p ≤ 256 → record { number = 0; bits = true; size = n } ≡ bit_part p
+  pub bit_good : (n : ℕ) → bits_formed p ≡ true → n ≡ count_in p → count_in p ≤ 256 → Ok (Bits n) ≡ bit_part p
   unfolding bit_part part_by
   bit_good n h e k = rw (h, le-leb (count_in p) 256 k, e)
 
   -- a test that fails
-  pub no_x : (get_or p 2 0 ≡ 120 → ⊥) → refused_part 20 ≡ bit_part p
+  pub no_x : (get_or p 2 0 ≡ 120 → ⊥) → Err Form ≡ bit_part p
   unfolding bits_formed
   no_x h = bit_unformed (not_first (eqb (get_or p 2 0) 120) (not (eqb (length (digits_in p)) 0)) (count_formed p) (same (end_in p) (93 ∷ [])) (eqb (length (digits_in p)) (digits_for (count_in p))) (rest_clear (count_in p) (bit_octets p)) (ne_eqb (get_or p 2 0) 120 h))
 
-  pub no_digits : leading is_hex (drop 3 p) ≡ 0 → refused_part 20 ≡ bit_part p
+  pub no_digits : leading is_hex (drop 3 p) ≡ 0 → Err Form ≡ bit_part p
   unfolding bits_formed
   no_digits h = bit_unformed (not_second (eqb (get_or p 2 0) 120) (not (eqb (length (digits_in p)) 0)) (count_formed p) (same (end_in p) (93 ∷ [])) (eqb (length (digits_in p)) (digits_for (count_in p))) (rest_clear (count_in p) (bit_octets p)) (ap not (eq-eqb (length (digits_in p)) 0 (digits_length ∙ h))))
 
-  no_count : count_formed p ≡ false → refused_part 20 ≡ bit_part p
+  no_count : count_formed p ≡ false → Err Form ≡ bit_part p
   unfolding bits_formed
   no_count h = bit_unformed (not_third (eqb (get_or p 2 0) 120) (not (eqb (length (digits_in p)) 0)) (count_formed p) (same (end_in p) (93 ∷ [])) (eqb (length (digits_in p)) (digits_for (count_in p))) (rest_clear (count_in p) (bit_octets p)) h)
 
-  no_end : same (end_in p) (93 ∷ []) ≡ false → refused_part 20 ≡ bit_part p
+  no_end : same (end_in p) (93 ∷ []) ≡ false → Err Form ≡ bit_part p
   unfolding bits_formed
   no_end h = bit_unformed (not_fourth (eqb (get_or p 2 0) 120) (not (eqb (length (digits_in p)) 0)) (count_formed p) (same (end_in p) (93 ∷ [])) (eqb (length (digits_in p)) (digits_for (count_in p))) (rest_clear (count_in p) (bit_octets p)) h)
 
-  other_digits : (length (digits_in p) ≡ digits_for (count_in p) → ⊥) → refused_part 20 ≡ bit_part p
+  other_digits : (length (digits_in p) ≡ digits_for (count_in p) → ⊥) → Err Form ≡ bit_part p
   unfolding bits_formed
   other_digits h = bit_unformed (not_fifth (eqb (get_or p 2 0) 120) (not (eqb (length (digits_in p)) 0)) (count_formed p) (same (end_in p) (93 ∷ [])) (eqb (length (digits_in p)) (digits_for (count_in p))) (rest_clear (count_in p) (bit_octets p)) (ne_eqb (length (digits_in p)) (digits_for (count_in p)) h))
 
-  not_clear : rest_clear (count_in p) (bit_octets p) ≡ false → refused_part 20 ≡ bit_part p
+  not_clear : rest_clear (count_in p) (bit_octets p) ≡ false → Err Form ≡ bit_part p
   unfolding bits_formed
   not_clear h = bit_unformed (not_last (eqb (get_or p 2 0) 120) (not (eqb (length (digits_in p)) 0)) (count_formed p) (same (end_in p) (93 ∷ [])) (eqb (length (digits_in p)) (digits_for (count_in p))) (rest_clear (count_in p) (bit_octets p)) h)
 
@@ -207,7 +210,7 @@ module _ (p : List ℕ) (e : ℕ) (q : e ≡ 3 + leading is_hex (drop 3 p)) wher
     unfolding count_formed
     formed_plain = rw none
 
-    pub open_plain : same (drop e p) (93 ∷ []) ≡ false → refused_part 20 ≡ bit_part p
+    pub open_plain : same (drop e p) (93 ∷ []) ≡ false → Err Form ≡ bit_part p
     open_plain h = no_end p (rw end_plain h)
 
     pub good_plain : get_or p 2 0 ≡ 120 → (e ≡ 3 → ⊥) → same (drop e p) (93 ∷ []) ≡ true → bits_formed p ≡ true
@@ -222,7 +225,7 @@ module _ (p : List ℕ) (e : ℕ) (q : e ≡ 3 + leading is_hex (drop 3 p)) wher
         all_formed p x o formed_plain (rw end_plain h) d (rest_is p o d ∙ rw z (eq-eqb (v % 1) 0 m))
 
   -- nothing comes after the digits
-  pub open_end : length p ≤ e → refused_part 20 ≡ bit_part p
+  pub open_end : length p ≤ e → Err Form ≡ bit_part p
   unfolding same_by
   open_end h =
       let g : get_or p e 0 ≡ 0 = get_or-eq_default p 0 {n = e} h in
@@ -250,14 +253,14 @@ module _ (p : List ℕ) (e : ℕ) (q : e ≡ 3 + leading is_hex (drop 3 p)) wher
     unfolding count_formed
     formed_counted = rw some (ap is_decimal text_is)
 
-    pub no_decimal : is_decimal (drop (e + 1) p) ≡ false → refused_part 20 ≡ bit_part p
+    pub no_decimal : is_decimal (drop (e + 1) p) ≡ false → Err Form ≡ bit_part p
     no_decimal h = no_count p (formed_counted ∙ h)
 
-    pub open_counted : (next : ℕ) → next ≡ e + 1 + digit_count (drop (e + 1) p) → same (drop next p) (93 ∷ []) ≡ false → refused_part 20 ≡ bit_part p
+    pub open_counted : (next : ℕ) → next ≡ e + 1 + digit_count (drop (e + 1) p) → same (drop next p) (93 ∷ []) ≡ false → Err Form ≡ bit_part p
     open_counted next n h = no_end p (ap (λ (xs : List ℕ). same xs (93 ∷ [])) (end_counted ∙ ap (λ (j : ℕ). drop j p) (sym n)) ∙ h)
 
     module _ (v : Quarters) (w : Quartered (decimal_of (drop (e + 1) p)) (4 * (e - 3 + 1)) v) where
-      pub wrong_digits : (v.whole + (v.rest + 3) / 4 ≡ e - 3 → ⊥) → refused_part 20 ≡ bit_part p
+      pub wrong_digits : (v.whole + (v.rest + 3) / 4 ≡ e - 3 → ⊥) → Err Form ≡ bit_part p
       wrong_digits h =
           let l = digits_length p in
           let n = count_counted in
@@ -290,7 +293,7 @@ module _ (p : List ℕ) (e : ℕ) (q : e ≡ 3 + leading is_hex (drop 3 p)) wher
             rest_is p (omega arith) digits_are ∙ ap (λ (k : ℕ). eqb (digit_in (get_or p k 0) % 2 ^ (4 * length (digits_in p) - count_in p)) 0) i
             ∙ ap (λ (k : ℕ). eqb (digit_in (get_or p (e - 1) 0) % 2 ^ k) 0) j
 
-        pub bits_set : eqb (digit_in (get_or p (e - 1) 0) % 2 ^ ((4 - v.rest) % 4)) 0 ≡ false → refused_part 20 ≡ bit_part p
+        pub bits_set : eqb (digit_in (get_or p (e - 1) 0) % 2 ^ ((4 - v.rest) % 4)) 0 ≡ false → Err Form ≡ bit_part p
         bits_set k = not_clear p (clear_is ∙ k)
 
         module _ (x : get_or p 2 0 ≡ 120) (f : is_decimal (drop (e + 1) p) ≡ true) (next : ℕ) (n : next ≡ e + 1 + digit_count (drop (e + 1) p))
@@ -300,10 +303,10 @@ module _ (p : List ℕ) (e : ℕ) (q : e ≡ 3 + leading is_hex (drop 3 p)) wher
               let l = digits_length p in
               all_formed p x (omega arith) (formed_counted ∙ f) (ap (λ (xs : List ℕ). same xs (93 ∷ [])) (end_counted ∙ ap (λ (j : ℕ). drop j p) (sym n)) ∙ o) digits_are (clear_is ∙ k)
 
-          pub large_counted : 64 < e - 3 → refused_part 21 ≡ bit_part p
+          pub large_counted : 64 < e - 3 → Err Range ≡ bit_part p
           large_counted m = let u = value_is in let b = w.rest in bit_unranged p good_counted (omega arith)
 
-          pub part_counted : e - 3 ≤ 64 → record { number = 0; bits = true; size = 4 * v.whole + v.rest } ≡ bit_part p
+          pub part_counted : e - 3 ≤ 64 → Ok (Bits (4 * v.whole + v.rest)) ≡ bit_part p
           part_counted m = let u = value_is in let b = w.rest in bit_good p (4 * v.whole + v.rest) good_counted (sym u) (omega arith)
 
 -- a bracket and nothing after it

@@ -2,6 +2,7 @@
 use Prim.Native.Nat.{ℕ, zero, suc, ◌-◌, ◌≤◌, ◌<◌}
 use mathlib.Core.Path.{◌≡◌, refl, ap, ◌∙◌, sym}
 use mathlib.Core.Bool.{Bool, true, false, not, ◌&&◌}
+use Rattle.std.specs.Prelude.{Ok}
 use mathlib.Core.List.{List, [], ◌∷◌, ◌++◌, cons≢nil}
 use lib.Dec.{leb, ltb, eqb}
 use lib.ListN.{length, get_or, drop, length-drop}
@@ -13,7 +14,7 @@ use Rattle.octets.proofs.AnswerLaws.{earns_zero}
 use Rattle.text.proofs.DecimalLaws.{both}
 use Rattle.text.proofs.PlaceLaws.{past}
 use Rattle.nametext.specs.Reading.{label_formed, label_ranged, labels_short, parts_from, parts_of, last_from, every, labels_in, name_read, text_number}
-use Rattle.nametext.specs.Places.{Dot, run_size, concluded, judge_from}
+use Rattle.nametext.specs.Places.{Dot, run_size, judge_from}
 use Rattle.nametext.proofs.BitPartLaws.{not_alone}
 use Rattle.nametext.proofs.JudgeLaws.{begun, number_judged}
 
@@ -86,15 +87,15 @@ alone (x ∷ []) h l = ap (λ (y : ℕ). y ∷ []) l
 alone (x ∷ y ∷ ys) h l = let z : ⊥ = omega arith in absurd z
 
 pub number_root : (text : List ℕ) → length text ≡ 1 → last_from 0 text ≡ 46 → 0 ≡ text_number text
-unfolding judge_from concluded parts_of same_by run_size
-number_root text h l = sym (number_judged text l ∙ ap (λ (xs : List ℕ). judge_from begun (parts_of xs)) (alone text h l))
+unfolding judge_from parts_of same_by run_size
+number_root text h l = sym (number_judged text l ∙ ap (λ (xs : List ℕ). judge_from (Ok begun) (parts_of xs)) (alone text h l))
 
 pub parts_whole : (text : List ℕ) → (length text ≡ 1 → ⊥) → parts_of text ≡ parts_from [] text
 unfolding parts_of
 parts_whole text h = rw (parts_of, not_alone 46 text h)
 
-pub number_start : (text : List ℕ) → (length text ≡ 1 → ⊥) → last_from 0 text ≡ 46 → judge_from begun (parts_from [] text) ≡ text_number text
-number_start text h l = sym (number_judged text l ∙ ap (judge_from begun) (parts_whole text h))
+pub number_start : (text : List ℕ) → (length text ≡ 1 → ⊥) → last_from 0 text ≡ 46 → judge_from (Ok begun) (parts_from [] text) ≡ text_number text
+number_start text h l = sym (number_judged text l ∙ ap (judge_from (Ok begun)) (parts_whole text h))
 
 pub parts_end : (text : List ℕ) (at : ℕ) → length text ≤ at → parts_from [] (drop at text) ≡ []
 unfolding parts_from

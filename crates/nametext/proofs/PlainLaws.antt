@@ -1,7 +1,7 @@
 -- An ordinary label with no escape.
 use Prim.Native.Nat.{ℕ, suc, ◌+◌, ◌-◌, ◌≤◌}
 use mathlib.Core.Path.{◌≡◌, refl, ap, ◌∙◌, sym}
-use mathlib.Core.Bool.{true, false}
+use mathlib.Core.Bool.{true}
 use mathlib.Core.List.{List, [], ◌∷◌, ◌++◌}
 use lib.ListN.{length, take}
 use lib.Seq.{paste, take-paste, drop-paste, length-paste, take-length}
@@ -14,6 +14,8 @@ use Rattle.bits.proofs.PackLaws.{clean_drop}
 use Rattle.text.specs.Digits.{leading}
 use Rattle.nametext.specs.Characters.{is_plain}
 use Rattle.nametext.specs.Reading.{octets_formed, octets_in, octets_ranged}
+use Rattle.std.specs.Prelude.{Ok}
+use Rattle.nametext.specs.declared.reading.Part.TheVariants.{Word}
 use Rattle.nametext.specs.Places.{part_by, ordinary_part, Filled}
 use Rattle.text.proofs.LeadingLaws.{leading_first, leading_rest}
 
@@ -40,7 +42,7 @@ unfolding octets_ranged
 small_ranged [] s = refl
 small_ranged (x ∷ xs) s = rw (lt-ltb x 256 (s 0)) (small_ranged xs (λ i. s (suc i)))
 
-pub plain_part : (p : List ℕ) → Small p → (length p ≡ 0 → ⊥) → leading is_plain p ≡ length p → record { number = 0; bits = false; size = length p } ≡ ordinary_part p
+pub plain_part : (p : List ℕ) → Small p → (length p ≡ 0 → ⊥) → leading is_plain p ≡ length p → Ok (Word (length p)) ≡ ordinary_part p
 unfolding ordinary_part part_by
 plain_part p s z h = rw (ne_eqb (length p) 0 z, plain_formed p h, plain_holds p h, small_ranged p s)
 

@@ -17,7 +17,8 @@ use Rattle.text.proofs.PlaceLaws.{past}
 use Rattle.nametext.specs.Writing.{digits_for}
 use Rattle.nametext.specs.Reading.{octets_formed, octets_in, octets_ranged, is_bits_text, bits_formed, count_in, bit_octets, label_formed, label_ranged, label_in, parts_from, last_from, every}
 use Rattle.nametext.specs.Places.{Dot, part_of, rest_of, Standing}
-use Rattle.nametext.specs.declared.reading.Part.{Part}
+use Rattle.std.specs.Prelude.{Ok}
+use Rattle.nametext.specs.declared.reading.Part.TheVariants.{Bits}
 use Rattle.nametext.proofs.PlaceLaws.{begins_is}
 use Rattle.nametext.proofs.BitPartLaws.{digits_length, formed_digits, formed_some, bits_size}
 use Rattle.nametext.proofs.JudgeLaws.{formed_bits, formed_word, ranged_word, in_bits, in_word, part_good_bits}
@@ -104,14 +105,18 @@ bits_inside text at h = go (ltb at (length text)) refl
     go true e = ltb-true at (length text) e
     go false e = absurd (clash h (ap is_bits_text (past text at (ltb-false at (length text) e))))
 
-pub at_bits : (text : List ℕ) (at r : ℕ) (l : Part) → Standing text at → Dot text at r → is_bits_text (drop at text) ≡ true → l ≡ part_of (take (r - at) (drop at text)) → AtBits text at r l.size
-at_bits text at r l s d b e =
+-- its part is read as one
+pub part_at : (text : List ℕ) (at r : ℕ) → Standing text at → Dot text at r → is_bits_text (drop at text) ≡ true → part_of (take (r - at) (drop at text)) ≡ Ok (Bits (count_in (take (r - at) (drop at text))))
+part_at text at r s d b =
     let h = bits_inside text at b in
-    let p = take (r - at) (drop at text) in
+    part_good_bits (take (r - at) (drop at text)) (forms text at r s d h).0 (ranges text at r s d h).0 (kind_is text at r s d h ∙ b)
+
+pub at_bits : (text : List ℕ) (at r n : ℕ) → Standing text at → Dot text at r → is_bits_text (drop at text) ≡ true → n ≡ count_in (take (r - at) (drop at text)) → AtBits text at r n
+at_bits text at r c s d b n =
+    let h = bits_inside text at b in
     let k : is_bits_text (take (r - at) (drop at text)) ≡ true = kind_is text at r s d h ∙ b in
     let f = (forms text at r s d h).0 in
     let g : bits_formed (take (r - at) (drop at text)) ≡ true = sym (formed_bits (take (r - at) (drop at text)) k) ∙ f in
-    let n : l.size ≡ count_in (take (r - at) (drop at text)) = ap (λ (x : Part). x.size) (e ∙ part_good_bits (take (r - at) (drop at text)) f (ranges text at r s d h).0 k) in
     let m = formed_digits (take (r - at) (drop at text)) g in
     let q = digits_length (take (r - at) (drop at text)) in
     record {

@@ -1,9 +1,9 @@
 -- A run of bit labels, or an ordinary label, read from a text and written.
 use Prim.Native.Nat.{ℕ, ◌+◌, ◌-◌, ◌*◌, ◌%◌, ◌≤◌, ◌<◌}
 use mathlib.Core.Path.{◌≡◌, refl, ap, ◌∙◌, sym}
-use mathlib.Core.Bool.{Bool, true, false}
+use mathlib.Core.Bool.{Bool, true, false, not}
 use mathlib.Core.List.{List, [], ◌∷◌, ◌++◌, map, append_assoc, append-nil}
-use lib.Dec.{ltb}
+use lib.Dec.{ltb, eqb}
 use lib.ListN.{length, take, drop, set, length-append}
 use native.Mathlib.Omega.{arith}
 use borrow.Author.Tests.{ltb-true, ltb-false}
@@ -17,24 +17,26 @@ use Rattle.names.specs.Merge.{run_bits, after_run}
 use Rattle.names.specs.declared.Run.{Run}
 use Rattle.names.proofs.MergeLaws.{run_to, placed, header, run_written, encode_run}
 use Rattle.nametext.specs.Reading.{octets_in, is_bits_text, bit_octets, label_in}
-use Rattle.nametext.specs.Places.{Dot, part_of, rest_of, encode_rest, Standing, Filled, Ran, Moved}
+use Rattle.nametext.specs.Places.{rest_of, encode_rest, Standing, Filled, Ran, Moved}
 use Rattle.nametext.proofs.JudgeLaws.{label_size, run_some}
 use Rattle.nametext.proofs.DotLaws.{parts_end}
+use Rattle.text.specs.Digits.{leading}
+use Rattle.nametext.proofs.PlaceLaws.{dot_passed}
 use Rattle.nametext.proofs.RestLaws.{AtBits, at_bits, AtWord, at_word}
 
 -- no bit label stands at a place: the run has ended
-run_ended : (text : List ℕ) (at r : ℕ) → Standing text at → Dot text at r → is_bits_text (drop at text) ≡ false → (run_bits (rest_of text at) ≡ []) × (after_run (rest_of text at) ≡ rest_of text at)
+run_ended : (text : List ℕ) (at : ℕ) → Standing text at → is_bits_text (drop at text) ≡ false → (run_bits (rest_of text at) ≡ []) × (after_run (rest_of text at) ≡ rest_of text at)
 unfolding run_bits after_run
-run_ended text at r s d b = go (ltb at (length text)) refl
+run_ended text at s b = go (ltb at (length text)) refl
   where
     go : (t : Bool) → ltb at (length text) ≡ t → (run_bits (rest_of text at) ≡ []) × (after_run (rest_of text at) ≡ rest_of text at)
-    go true e = let w = (at_word text at r s d (ltb-true at (length text) e) b).labels in (ap run_bits w, ap after_run w ∙ sym w)
+    go true e = let r = at + leading (λ x. not (eqb x 46)) (drop at text) in let w = (at_word text at r s (dot_passed text at r s.inside refl) (ltb-true at (length text) e) b).labels in (ap run_bits w, ap after_run w ∙ sym w)
     go false e = let w : rest_of text at ≡ [] = ap (map label_in) (parts_end text at (ltb-false at (length text) e)) in (ap run_bits w, ap after_run w ∙ sym w)
 
-pub ran_none : (text out : List ℕ) (at r sum to w : ℕ) → Standing text at → Dot text at r → is_bits_text (drop at text) ≡ false → to + 2 ≤ length out → Clean out to → w ≡ sum % 256
+pub ran_none : (text out : List ℕ) (at sum to w : ℕ) → Standing text at → is_bits_text (drop at text) ≡ false → to + 2 ≤ length out → Clean out to → w ≡ sum % 256
     → Ran text out (set (set out to 65) (to + 1) w) at sum to (run_to at (packer (to + 2) 0 0))
-ran_none text out at r sum to w s d b h c e =
-    let n = run_ended text at r s d b in
+ran_none text out at sum to w s b h c e =
+    let n = run_ended text at s b in
     let z : to + 2 ≡ to + 1 + 1 = omega arith in
     let l : length (run_bits (rest_of text at)) ≡ 0 = ap length n.0 in
     let v : w ≡ (sum + length (run_bits (rest_of text at))) % 256 = e ∙ ap (λ (k : ℕ). k % 256) (omega arith) in
@@ -141,10 +143,11 @@ module _ (text : List ℕ) (at e : ℕ) (w : AtWord text at e) where
       }
 
 -- a run begins at a place
-pub run_begins : (text : List ℕ) (at r : ℕ) → Standing text at → Dot text at r → is_bits_text (drop at text) ≡ true → 0 < length (run_bits (rest_of text at))
-run_begins text at r s d b =
-    let w = at_bits text at r (part_of (take (r - at) (drop at text))) s d b refl in
-    omega (arith, w.some, run_length text at r (part_of (take (r - at) (drop at text))).size w)
+pub run_begins : (text : List ℕ) (at : ℕ) → Standing text at → is_bits_text (drop at text) ≡ true → 0 < length (run_bits (rest_of text at))
+run_begins text at s b =
+    let r = at + leading (λ x. not (eqb x 46)) (drop at text) in
+    let w = at_bits text at r _ s (dot_passed text at r s.inside refl) b refl in
+    omega (arith, w.some, run_length text at r _ w)
 
 pub run_ready : (text old mid : List ℕ) (at s to : ℕ) (r : Run) → Ran text old mid at s to r → length mid ≡ length old → (to + 2) * 8 + length (run_bits (rest_of text at)) ≤ length old * 8 → Ready mid r.packer 0
 run_ready text old mid at s to r f l h = record { clean = f.clean; have = f.have; value = f.value; room = omega (arith, f.place) }

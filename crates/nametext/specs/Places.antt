@@ -1,5 +1,9 @@
 -- What the readers of a name's text find, place by place and part by part: the code's own, nothing that a reader must believe.
-use Rattle.std.specs.Prelude.{ℕ, zero, suc, ◌+◌, ◌-◌, ◌*◌, ◌/◌, ◌%◌, ◌^◌, ◌≤◌, ◌<◌, min, ◌≡◌, Bool, true, false, not, ◌&&◌, List, [], ◌∷◌, ◌++◌, map, leb, ltb, eqb, length, get_or, take, drop}
+use Rattle.std.specs.Prelude.{ℕ, zero, suc, ◌+◌, ◌-◌, ◌*◌, ◌/◌, ◌%◌, ◌^◌, ◌≤◌, ◌<◌, min, ◌≡◌, Bool, true, false, not, ◌&&◌, List, [], ◌∷◌, ◌++◌, map, leb, ltb, eqb, length, get_or, take, drop, Result, Ok, Err}
+use Rattle.octets.specs.Answers.{earns}
+use Rattle.octets.specs.declared.Refusal.{Refusal}
+use Rattle.octets.specs.declared.Refusal.TheVariants.{Form, Range, Name}
+use Rattle.octets.specs.Refusals.{code_of, number_of}
 use Rattle.bits.specs.Bits.{bits_of, octets_for, pack_from}
 use Rattle.bits.specs.Packing.{Clean}
 use Rattle.labels.specs.Labels.{Label, ordinary, bits}
@@ -11,8 +15,9 @@ use Rattle.text.specs.Digits.{digit_in}
 use Rattle.nametext.specs.Reading.{octets_formed, octets_in, octets_ranged, is_bits_text, bits_formed, count_in, label_formed, label_ranged, label_in, parts_from, last_from, every}
 use Rattle.nametext.specs.declared.reading.Octet.{Octet}
 use Rattle.nametext.specs.declared.reading.Part.{Part}
+use Rattle.nametext.specs.declared.reading.Part.TheVariants.{Word, Bits}
 use Rattle.nametext.specs.declared.reading.Quarters.{Quarters}
-use Rattle.nametext.specs.declared.reading.Tally.{Tally}
+use Rattle.nametext.specs.declared.reading.Sizes.{Sizes}
 
 -- the first dot from a place on, or the end of the text: what stands between is the next part
 pub record Dot (text : List ℕ) (at r : ℕ) : Type 0 where
@@ -21,32 +26,32 @@ pub record Dot (text : List ℕ) (at r : ℕ) : Type 0 where
   pub found : r < length text → (get_or text r 0 ≡ 46) × (parts_from [] (drop at text) ≡ take (r - at) (drop at text) ∷ parts_from [] (drop (r + 1) text))
   pub none : r ≡ length text → parts_from [] (drop at text) ≡ []
 
--- what stands at a place of an ordinary label's text: an octet or an escape of so many octets, and its value; size 0 for neither
-pub record Stands (p : List ℕ) (i : ℕ) (r : Octet) : Type 0 where
-  pub bad : r.size ≡ 0 → octets_formed 0 (drop i p) ≡ false
-  pub formed : (r.size ≡ 0 → ⊥) → octets_formed 0 (drop i p) ≡ octets_formed 0 (drop (i + r.size) p)
-  pub holds : (r.size ≡ 0 → ⊥) → octets_in 0 (drop i p) ≡ r.value ∷ octets_in 0 (drop (i + r.size) p)
-  pub inside : i + r.size ≤ length p
+-- an octet or an escape stands at the front of an ordinary label's text, and its value
+pub record Stands (p : List ℕ) (r : Octet) : Type 0 where
+  pub some : 0 < r.size
+  pub formed : octets_formed 0 p ≡ octets_formed 0 (drop r.size p)
+  pub holds : octets_in 0 p ≡ r.value ∷ octets_in 0 (drop r.size p)
+  pub inside : r.size ≤ length p
   pub small : r.value < 1000
 
--- a part that has no form, or a number out of range
-abbrev pub refused_part : ℕ → Part
-refused_part k = record { number = k; bits = false; size = 0 }
+-- none stands there: the text ends, or has no form
+abbrev pub Ended : List ℕ → Type 0
+Ended p = 0 < length p → octets_formed 0 p ≡ false
 
 -- a part as a label: by its form, then by its ranges, with what it holds
-unfoldable pub part_by : Bool → Bool → Bool → ℕ → Part
-part_by formed ranged kind size = elim formed [
-  | true ↦ elim ranged [ true ↦ record { number = 0; bits = kind; size = size } | false ↦ refused_part 21 ]
-  | false ↦ refused_part 20
+unfoldable pub part_by : Bool → Bool → Part → Result Part Refusal
+part_by formed ranged part = elim formed [
+  | true ↦ elim ranged [ true ↦ Ok part | false ↦ Err Range ]
+  | false ↦ Err Form
 ]
 
-unfoldable pub ordinary_part : List ℕ → Part
-ordinary_part p = part_by (not (eqb (length p) 0) && octets_formed 0 p) (octets_ranged (octets_in 0 p)) false (length (octets_in 0 p))
+unfoldable pub ordinary_part : List ℕ → Result Part Refusal
+ordinary_part p = part_by (not (eqb (length p) 0) && octets_formed 0 p) (octets_ranged (octets_in 0 p)) (Word (length (octets_in 0 p)))
 
-unfoldable pub bit_part : List ℕ → Part
-bit_part p = part_by (bits_formed p) (leb (count_in p) 256) true (count_in p)
+unfoldable pub bit_part : List ℕ → Result Part Refusal
+bit_part p = part_by (bits_formed p) (leb (count_in p) 256) (Bits (count_in p))
 
-unfoldable pub part_of : List ℕ → Part
+unfoldable pub part_of : List ℕ → Result Part Refusal
 part_of p = elim (is_bits_text p) [ true ↦ bit_part p | false ↦ ordinary_part p ]
 
 -- a number as four times a whole and a rest, capped
@@ -65,41 +70,39 @@ size_from run [] = run_size run + 1
 size_from run (ordinary l ∷ ls) = run_size run + (1 + (length l + size_from 0 ls))
 size_from run (bits b ∷ ls) = size_from (run + length b) ls
 
--- a number that is earned: sizes matter no more
-abbrev pub over : ℕ → Tally
-over k = record { number = k; size = 0; run = 0 }
-
 -- one ordinary label more, of n octets; one bit label more, of n bits
-unfoldable pub tallied_word : Tally → ℕ → Tally
+unfoldable pub tallied_word : Sizes → ℕ → Result Sizes Refusal
 tallied_word t n = elim (ltb n 64 && ltb (t.size + (run_size t.run + (1 + n))) 255) [
-  | true ↦ record { number = 0; size = t.size + (run_size t.run + (1 + n)); run = 0 }
-  | false ↦ over 22
+  | true ↦ Ok (record { size = t.size + (run_size t.run + (1 + n)); run = 0 })
+  | false ↦ Err Name
 ]
 
-unfoldable pub tallied_bits : Tally → ℕ → Tally
-tallied_bits t n = elim (leb (t.run + n) 256) [ true ↦ record { number = 0; size = t.size; run = t.run + n } | false ↦ over 22 ]
+unfoldable pub tallied_bits : Sizes → ℕ → Result Sizes Refusal
+tallied_bits t n = elim (leb (t.run + n) 256) [ true ↦ Ok (record { size = t.size; run = t.run + n }) | false ↦ Err Name ]
 
--- one label more, where the part is formed
-unfoldable pub tallied : Tally → Part → Tally
-tallied t l = elim (eqb l.number 0) [
-  | true ↦ elim (eqb t.number 0) [
-    | true ↦ elim l.bits [ true ↦ tallied_bits t l.size | false ↦ tallied_word t l.size ]
-    | false ↦ t
-  ]
-  | false ↦ over 21
-]
+-- one label more, where sizes are tallied
+abbrev pub tallied_part : Sizes → Part → Result Sizes Refusal
+tallied_part t (Word n) = tallied_word t n
+tallied_part t (Bits n) = tallied_bits t n
+
+-- one label more: its fault, or else what is known
+abbrev pub tallied : Result Sizes Refusal → Result Part Refusal → Result Sizes Refusal
+tallied t (Err e) = Err e
+tallied (Err e) (Ok l) = Err e
+tallied (Ok t) (Ok l) = tallied_part t l
 
 -- the number at the end of the name
-unfoldable pub concluded : Tally → ℕ
-concluded t = elim (eqb t.number 0) [ true ↦ elim (leb (t.size + (run_size t.run + 1)) 255) [ true ↦ 0 | false ↦ 22 ] | false ↦ t.number ]
+abbrev pub concluded : Result Sizes Refusal → ℕ
+concluded (Err e) = code_of e
+concluded (Ok t) = earns (not (leb (t.size + (run_size t.run + 1)) 255)) 22 0
 
 -- the number of parts after those that were tallied
-unfoldable pub judge_from : Tally → List (List ℕ) → ℕ
+unfoldable pub judge_from : Result Sizes Refusal → List (List ℕ) → ℕ
 judge_from t [] = concluded t
-judge_from t (p ∷ ps) = elim (eqb (part_of p).number 20) [ true ↦ 20 | false ↦ judge_from (tallied t (part_of p)) ps ]
+judge_from t (p ∷ ps) = elim (eqb (number_of (part_of p)) 20) [ true ↦ 20 | false ↦ judge_from (tallied t (part_of p)) ps ]
 
 -- sizes that are tallied are small
-pub record Low (t : Tally) : Type 0 where
+pub record Low (t : Sizes) : Type 0 where
   pub size : t.size < 255
   pub run : t.run ≤ 256
 

@@ -1,6 +1,7 @@
 // Names read from text (T-06).
-ghost use Rattle.std.specs.Prelude.{◌≡◌, true, false, ◌&&◌, [], ◌∷◌, ◌++◌, ◌+◌, ◌-◌, ◌*◌, ◌%◌, ◌^◌, ◌≤◌, ◌<◌, ltb, eqb, length, get_or, drop};
+ghost use Rattle.std.specs.Prelude.{◌≡◌, true, ◌&&◌, [], ◌∷◌, ◌++◌, ◌+◌, ◌-◌, ◌*◌, ◌%◌, ◌^◌, ◌≤◌, ◌<◌, eqb, length, get_or, drop, Ok, IfOk, MatchOption};
 ghost use Rattle.octets.specs.Octets.{blank, same};
+ghost use Rattle.octets.specs.Refusals.{number_of};
 ghost use Rattle.bits.specs.Bits.{unpack};
 ghost use Rattle.bits.specs.Packing.{Clean, Ready, Pushed};
 ghost use Rattle.names.specs.Merge.{run_bits};
@@ -10,9 +11,10 @@ ghost use Rattle.text.specs.Decimal.{decimal_of};
 ghost use Rattle.nametext.specs.Characters.{is_plain, may_name};
 ghost use Rattle.nametext.specs.Writing.{digits_for};
 ghost use Rattle.nametext.specs.Reading.{octets_formed, octets_in, octets_ranged, is_bits_text, bit_octets, text_number, name_read, name_told, name_at};
-ghost use Rattle.nametext.specs.Places.{Dot, Stands, ordinary_part, bit_part, part_of, Quartered, run_size, tallied_word, tallied_bits, tallied, concluded, Low, rest_of, encode_rest, Standing, Filled, Ran, Moved};
+ghost use Rattle.nametext.specs.Places.{Dot, Ended, Stands, ordinary_part, bit_part, part_of, Quartered, run_size, tallied_word, tallied_bits, tallied, concluded, Low, rest_of, encode_rest, Standing, Filled, Ran, Moved};
 
-use names::Name;
+use bits::inside::Packer;
+use names::{Name, Place, Run};
 use octets::Refusal;
 
 // What is read of a name: the name in standard form, or `Form`, `Range` or `Name` for why there is none, and the place after its text.
@@ -22,19 +24,18 @@ pub struct Named {
     pub next: usize,
 }
 
-// What stands at a place of an ordinary label's text: how many octets it takes, none where it has no form, and its value.
+// An octet or an escape of an ordinary label's text: how many octets it takes, and its value.
 #[derive(Clone, Copy)]
 pub struct Octet {
     pub size: usize,
     pub value: usize,
 }
 
-// What a part of the text is as a label: its number, 0, 20 or 21; whether it is a bit label; how many octets or bits it holds.
+// What a part of the text is as a label: an ordinary one of so many octets, or a bit label of so many bits.
 #[derive(Clone, Copy)]
-pub struct Part {
-    pub number: u8,
-    pub bits: bool,
-    pub size: usize,
+pub enum Part {
+    Word(usize),
+    Bits(usize),
 }
 
 // A number as four times a whole and a rest.
@@ -44,10 +45,9 @@ pub struct Quarters {
     pub rest: usize,
 }
 
-// What is known of a name after some of its labels: its number, 0, 21 or 22; the octets of the labels before the run at hand; the bits of that run.
+// What is known of a name after some of its labels: the octets of the labels before the run at hand, and the bits of that run.
 #[derive(Clone, Copy)]
-pub struct Tally {
-    pub number: u8,
+pub struct Sizes {
     pub size: usize,
     pub run: usize,
 }
@@ -73,12 +73,8 @@ pub fn read_name(s: &[u8], from: usize) -> Named
 fn read_text(text: &[u8]) -> Result<Name, Refusal>
     ensures { result ≡ name_told text.now }
 {
-    match judge(text) {
-        0 => Ok(name_in(text)),
-        20 => Err(Refusal::Form),
-        21 => Err(Refusal::Range),
-        _ => Err(Refusal::Name),
-    }
+    judge(text)?;
+    Ok(name_in(text))
 }
 
 // Whether an octet may stand in a name: they are in three ranges and an underscore.
@@ -89,99 +85,89 @@ fn may_name(x: u8) -> bool
     matches!(x, b'a'..=b'z' | b'-'..=b'9' | b'A'..=b']' | b'_')
 }
 
-// The number of a text.
-fn judge(text: &[u8]) -> u8
-    ensures { result ≡ text_number text.now }
+// Whether a text is a name, and why it is none: a fault of form in any part comes before one of range, and that before one of size.
+fn judge(text: &[u8]) -> Result<(), Refusal>
+    ensures { number_of result ≡ text_number text.now }
 {
     let n = text.len();
-    if n == 0 {
-        return 20;
-    }
-    if text[n - 1] != 46 {
-        return 20;
+    if n == 0 || text[n - 1] != b'.' {
+        return Err(Refusal::Form);
     }
     if n == 1 {
-        return 0;
+        return Ok(());
     }
-    let mut t = Tally {
-        number: 0,
-        size: 0,
-        run: 0,
-    };
+    let mut tally = Ok(Sizes { size: 0, run: 0 });
     let mut at: usize = 0;
     while at < n {
         let e = next_dot(text, at);
-        let l = read_part(&text[at..e]);
-        if l.number == 20 {
-            return 20;
-        }
-        t = count_part(t, l);
+        tally = match read_part(&text[at..e]) {
+            Ok(part) => count(tally, part),
+            Err(refusal) => {
+                if refusal == Refusal::Form {
+                    return Err(refusal);
+                }
+                Err(refusal)
+            }
+        };
         at = e + 1;
     }
-    conclude(t)
+    tally?.conclude()
 }
 
-// What is known after one part more, which is formed.
-fn count_part(t: Tally, l: Part) -> Tally
-    requires { Low t }
-    ensures { (result ≡ tallied t l) × Low result }
+// What is known after one part more.
+fn count(tally: Result<Sizes, Refusal>, part: Part) -> Result<Sizes, Refusal>
+    requires { IfOk tally Low }
+    ensures value { result ≡ tallied tally (Ok part) }
+    ensures low { IfOk result Low }
 {
-    if l.number != 0 {
-        return earned(21);
-    }
-    if t.number != 0 {
-        return t;
-    }
-    if l.bits {
-        return count_bits(t, l.size);
-    }
-    count_word(t, l.size)
-}
-
-// A number that is earned.
-fn earned(number: u8) -> Tally
-    ensures { (result ≡ record { number = number; size = 0; run = 0 }) × Low result }
-{
-    Tally {
-        number,
-        size: 0,
-        run: 0,
+    let sizes = tally?;
+    match part {
+        Part::Word(n) => sizes.word(n),
+        Part::Bits(n) => sizes.bits(n),
     }
 }
 
-// One bit label more, of n bits.
-fn count_bits(t: Tally, n: usize) -> Tally
-    requires { Low t }
-    ensures { (result ≡ tallied_bits t n) × Low result }
-{
-    let size = t.size;
-    let run = t.run;
-    if 256 - run < n {
-        return earned(22);
+impl Sizes {
+    // One bit label more, of n bits.
+    fn bits(self, n: usize) -> Result<Sizes, Refusal>
+        requires { Low self }
+        ensures value { result ≡ tallied_bits self n }
+        ensures low { IfOk result Low }
+    {
+        if 256 - self.run < n {
+            return Err(Refusal::Name);
+        }
+        Ok(Sizes {
+            size: self.size,
+            run: self.run + n,
+        })
     }
-    Tally {
-        number: 0,
-        size,
-        run: run + n,
-    }
-}
 
-// One ordinary label more, of n octets.
-fn count_word(t: Tally, n: usize) -> Tally
-    requires { Low t }
-    ensures { (result ≡ tallied_word t n) × Low result }
-{
-    if 63 < n {
-        return earned(22);
+    // One ordinary label more, of n octets.
+    fn word(self, n: usize) -> Result<Sizes, Refusal>
+        requires { Low self }
+        ensures value { result ≡ tallied_word self n }
+        ensures low { IfOk result Low }
+    {
+        if 63 < n {
+            return Err(Refusal::Name);
+        }
+        let size = self.size + (run_size(self.run) + (1 + n));
+        if 254 < size {
+            return Err(Refusal::Name);
+        }
+        Ok(Sizes { size, run: 0 })
     }
-    let size = t.size + (run_size(t.run) + (1 + n));
-    if 254 < size {
-        return earned(22);
-    }
-    Tally {
-        number: 0,
-        size,
-        run: 0,
+
+    // Whether the name whose labels are all tallied is short enough.
+    fn conclude(self) -> Result<(), Refusal>
+        requires { Low self }
+        ensures { number_of result ≡ concluded (Ok self) }
+    {
+        if 255 < self.size + (run_size(self.run) + 1) {
+            return Err(Refusal::Name);
+        }
+        Ok(())
     }
 }
 
@@ -191,24 +177,10 @@ fn run_size(run: usize) -> usize
     ensures { (result ≡ run_size run) × (result ≤ 34) }
 {
     if run == 0 {
-        return 0;
+        0
+    } else {
+        2 + bits::inside::octets_for(run)
     }
-    2 + (run + 7) / 8
-}
-
-// The number of the name whose labels are all tallied.
-fn conclude(t: Tally) -> u8
-    requires { Low t }
-    ensures { result ≡ concluded t }
-{
-    let number = t.number;
-    if number != 0 {
-        return number;
-    }
-    if 255 < t.size + (run_size(t.run) + 1) {
-        return 22;
-    }
-    0
 }
 
 // The first dot from `at` on, or the end of the text.
@@ -216,66 +188,38 @@ fn next_dot(text: &[u8], at: usize) -> usize
     requires { at ≤ length text.now }
     ensures { Dot text.now at result }
 {
-    let n = text.len();
-    let mut i = at;
-    while i < n {
-        if text[i] == 46 {
-            return i;
-        }
-        i += 1;
-    }
-    i
+    text::inside::pass(text, at, |c| c != b'.')
 }
 
 // What a part is as a label.
-fn read_part(p: &[u8]) -> Part
+fn read_part(p: &[u8]) -> Result<Part, Refusal>
     ensures { result ≡ part_of p.now }
 {
-    if is_bits(p, 0) {
-        return bit_part(p);
+    if is_bits(p) {
+        bit_part(p)
+    } else {
+        ordinary_part(p)
     }
-    ordinary_part(p)
 }
 
-// Whether a bit label begins at a place.
-fn is_bits(p: &[u8], at: usize) -> bool
-    requires { at ≤ length p.now }
-    ensures { result ≡ is_bits_text (drop at p.now) }
+// Whether a bit label begins there.
+#[tactic(auto, using(std::proofs::lemmas::Bool::Decides::nat_tests), unfolding(crate::specs::Reading::is_bits_text))]
+fn is_bits(p: &[u8]) -> bool
+    ensures { result ≡ is_bits_text p.now }
 {
-    if p.len() - at < 2 {
-        return false;
-    }
-    if p[at] != 92 {
-        return false;
-    }
-    p[at + 1] == 91
-}
-
-// A part that earns a number.
-fn refused(number: u8) -> Part
-    ensures { result ≡ record { number = number; bits = false; size = 0 } }
-{
-    Part {
-        number,
-        bits: false,
-        size: 0,
-    }
+    matches!(p, [b'\\', b'[', ..])
 }
 
 // What a part is as an ordinary label. Most have no escape.
-fn ordinary_part(p: &[u8]) -> Part
+fn ordinary_part(p: &[u8]) -> Result<Part, Refusal>
     ensures { result ≡ ordinary_part p.now }
 {
     let n = p.len();
     if n == 0 {
-        return refused(20);
+        return Err(Refusal::Form);
     }
     if plain_end(p) == n {
-        return Part {
-            number: 0,
-            bits: false,
-            size: n,
-        };
+        return Ok(Part::Word(n));
     }
     escaped_part(p)
 }
@@ -284,100 +228,64 @@ fn ordinary_part(p: &[u8]) -> Part
 fn plain_end(p: &[u8]) -> usize
     ensures { result ≡ leading is_plain p.now }
 {
-    let n = p.len();
-    let mut i: usize = 0;
-    while i < n {
-        if !crate::is_plain(p[i]) {
-            return i;
-        }
-        i += 1;
-    }
-    i
+    text::inside::pass(p, 0, crate::is_plain)
 }
 
 // What a part is as an ordinary label, octet by octet and escape by escape.
-fn escaped_part(p: &[u8]) -> Part
+fn escaped_part(p: &[u8]) -> Result<Part, Refusal>
     ensures { result ≡ ordinary_part p.now }
 {
-    let n = p.len();
-    if n == 0 {
-        return refused(20);
-    }
     let mut ranged = true;
-    let mut k: usize = 0;
-    let mut i: usize = 0;
-    while i < n {
-        let o = octet_at(p, i);
-        let size = o.size;
-        if size == 0 {
-            return refused(20);
+    let mut count: usize = 0;
+    let mut rest = p;
+    while let Some(octet) = octet_at(rest) {
+        ranged = ranged && octet.value < 256;
+        count += 1;
+        rest = &rest[octet.size..];
+    }
+    if rest.len() != 0 || count == 0 {
+        return Err(Refusal::Form);
+    }
+    if !ranged {
+        return Err(Refusal::Range);
+    }
+    Ok(Part::Word(count))
+}
+
+// The octet or the escape at the front.
+fn octet_at(rest: &[u8]) -> Option<Octet>
+    ensures { MatchOption result (Ended rest.now) (Stands rest.now) }
+{
+    if rest.len() == 0 {
+        return None;
+    }
+    let x = rest[0];
+    if x == b'\\' {
+        if !is_escape(rest) {
+            return None;
         }
-        ranged = still(ranged, o.value);
-        k += 1;
-        i += size;
+        return Some(Octet {
+            size: 4,
+            value: digit_value(rest[1]) * 100 + (digit_value(rest[2]) * 10 + digit_value(rest[3])),
+        });
     }
-    if ranged {
-        return Part {
-            number: 0,
-            bits: false,
-            size: k,
-        };
+    if !crate::is_plain(x) {
+        return None;
     }
-    refused(21)
+    Some(Octet {
+        size: 1,
+        value: usize::from(x),
+    })
 }
 
-// Whether one value more is that of an octet, as those before it.
-fn still(ranged: bool, value: usize) -> bool
-    ensures { result ≡ (ranged && ltb value 256) }
+// Whether three digits come after the first octet.
+fn is_escape(rest: &[u8]) -> bool
+    ensures { (result ≡ (is_digit (get_or rest.now 1 0) && (is_digit (get_or rest.now 2 0) && is_digit (get_or rest.now 3 0)))) × (result ≡ true → 4 ≤ length rest.now) }
 {
-    if ranged {
-        return value < 256;
-    }
-    false
-}
-
-// The octet or the escape at a place.
-fn octet_at(p: &[u8], i: usize) -> Octet
-    requires { i < length p.now }
-    ensures { Stands p.now i result }
-{
-    let x = p[i];
-    if x == 92 {
-        if is_escape(p, i) {
-            let a = digit_value(p[i + 1]);
-            let b = digit_value(p[i + 2]);
-            let c = digit_value(p[i + 3]);
-            return Octet {
-                size: 4,
-                value: a * 100 + (b * 10 + c),
-            };
-        }
-        return Octet { size: 0, value: 0 };
-    }
-    if crate::is_plain(x) {
-        return Octet {
-            size: 1,
-            value: octets::wide(x),
-        };
-    }
-    Octet { size: 0, value: 0 }
-}
-
-// Whether three digits come after a place.
-fn is_escape(p: &[u8], i: usize) -> bool
-    requires { i < length p.now }
-    ensures { (result ≡ (is_digit (get_or p.now (i + 1) 0) && (is_digit (get_or p.now (i + 2) 0) && is_digit (get_or p.now (i + 3) 0)))) × (result ≡ true → i + 4 ≤ length p.now) }
-{
-    if p.len() - i < 4 {
-        return false;
-    }
-    if !p[i + 1].is_ascii_digit() {
-        return false;
-    }
-    if !p[i + 2].is_ascii_digit() {
-        return false;
-    }
-    p[i + 3].is_ascii_digit()
+    4 <= rest.len()
+        && rest[1].is_ascii_digit()
+        && rest[2].is_ascii_digit()
+        && rest[3].is_ascii_digit()
 }
 
 // The value of a decimal digit.
@@ -385,41 +293,31 @@ fn digit_value(x: u8) -> usize
     requires { is_digit x ≡ true }
     ensures { (result ≡ x - 48) × (result < 10) }
 {
-    octets::wide(x - 48)
+    usize::from(x - b'0')
 }
 
 // What a part is as a bit label.
-fn bit_part(p: &[u8]) -> Part
+fn bit_part(p: &[u8]) -> Result<Part, Refusal>
     ensures { result ≡ bit_part p.now }
 {
     let n = p.len();
-    if n < 4 {
-        return refused(20);
-    }
-    if p[2] != 120 {
-        return refused(20);
+    if n < 4 || p[2] != b'x' {
+        return Err(Refusal::Form);
     }
     let e = hex_end(p);
-    if e == 3 {
-        return refused(20);
+    if e == 3 || e == n {
+        return Err(Refusal::Form);
     }
-    if e == n {
-        return refused(20);
-    }
-    if p[e] == 47 {
+    if p[e] == b'/' {
         return counted_part(p, e);
     }
-    if !closes(p, e) {
-        return refused(20);
+    if !closes(&p[e..]) {
+        return Err(Refusal::Form);
     }
     if 67 < e {
-        return refused(21);
+        return Err(Refusal::Range);
     }
-    Part {
-        number: 0,
-        bits: true,
-        size: 4 * (e - 3),
-    }
+    Ok(Part::Bits(4 * (e - 3)))
 }
 
 // Where the hex digits of a bit label end.
@@ -427,58 +325,36 @@ fn hex_end(p: &[u8]) -> usize
     requires { 3 ≤ length p.now }
     ensures { result ≡ 3 + leading is_hex (drop 3 p.now) }
 {
-    let n = p.len();
-    let mut i: usize = 3;
-    while i < n {
-        if 15 < text::reading::digit_in(p[i]) {
-            return i;
-        }
-        i += 1;
-    }
-    i
+    text::inside::pass(p, 3, |c| text::reading::digit_in(c) < 16)
 }
 
-// Whether a bracket stands at a place and nothing after it.
-fn closes(p: &[u8], at: usize) -> bool
-    requires { at ≤ length p.now }
-    ensures { result ≡ same (drop at p.now) (93 ∷ []) }
+// Whether a bracket stands there and nothing after it.
+#[tactic(auto, using(std::proofs::lemmas::Bool::Decides::nat_tests), unfolding(octets::specs::Octets::same_by))]
+fn closes(rest: &[u8]) -> bool
+    ensures { result ≡ same rest.now (93 ∷ []) }
 {
-    if p.len() - at != 1 {
-        return false;
-    }
-    p[at] == 93
+    matches!(rest, [b']'])
 }
 
 // What a part is as a bit label whose hex digits, of which there are some, end at e with a slash.
-fn counted_part(p: &[u8], e: usize) -> Part
+fn counted_part(p: &[u8], e: usize) -> Result<Part, Refusal>
     requires { (e ≡ 3 + leading is_hex (drop 3 p.now)) × (3 < e) × (get_or p.now 2 0 ≡ 120) × (get_or p.now e 0 ≡ 47) }
     ensures { result ≡ bit_part p.now }
 {
     let from = e + 1;
     let t = text::numbers::read_decimal(p, from, 256);
-    if !t.formed {
-        return refused(20);
-    }
-    let next = t.next;
-    if !closes(p, next) {
-        return refused(20);
+    if !t.formed || !closes(&p[t.next..]) {
+        return Err(Refusal::Form);
     }
     let d = e - 3;
     let v = read_quarters(p, from, d);
-    if v.whole + (v.rest + 3) / 4 != d {
-        return refused(20);
-    }
-    if !is_clear(p[e - 1], v.rest) {
-        return refused(20);
+    if v.whole + v.rest.div_ceil(4) != d || !is_clear(p[e - 1], v.rest) {
+        return Err(Refusal::Form);
     }
     if 64 < d {
-        return refused(21);
+        return Err(Refusal::Range);
     }
-    Part {
-        number: 0,
-        bits: true,
-        size: 4 * v.whole + v.rest,
-    }
+    Ok(Part::Bits(4 * v.whole + v.rest))
 }
 
 // The decimal from a place on, or four times d + 1 if it is more: no sum wraps, however many digits there are.
@@ -571,21 +447,22 @@ fn put_labels(text: &[u8], out: &mut [u8]) -> usize
 }
 
 // The label or the run at `at`, written at `to`.
-fn put_next(text: &[u8], at: usize, to: usize, out: &mut [u8]) -> names::Place
+fn put_next(text: &[u8], at: usize, to: usize, out: &mut [u8]) -> Place
     requires standing { Standing text.now at }
     requires at_in_bounds { (at < length text.now) × Clean out.old to × (to + length (encode_rest text.now at) ≤ length out.old) × (length out.old ≡ 255) }
     ensures { Moved text.now out.old out.new at to result }
 {
-    let e = next_dot(text, at);
-    if is_bits(text, at) {
-        let r = pack_run(text, at, 0, to, out);
-        let end = r.end;
-        let p = r.packer;
-        let t = bits::inside::flush(out, p);
-        return names::Place { at: end, to: t };
+    if is_bits(&text[at..]) {
+        let run = pack_run(text, at, 0, to, out);
+        let end = run.packer.flush(out);
+        return Place {
+            at: run.end,
+            to: end,
+        };
     }
-    let t = put_ordinary(&text[at..e], out, to);
-    names::Place { at: e + 1, to: t }
+    let e = next_dot(text, at);
+    let end = put_ordinary(&text[at..e], out, to);
+    Place { at: e + 1, to: end }
 }
 
 // An ordinary label: its length and its octets.
@@ -620,53 +497,45 @@ fn put_escaped(p: &[u8], out: &mut [u8], to: usize) -> usize
     requires clean { Clean out.old to × (to + length (octets_in 0 p.now) ≤ length out.old) × (length out.old ≡ 255) }
     ensures { Filled out.old out.new to result (octets_in 0 p.now) }
 {
-    let n = p.len();
-    let mut i: usize = 0;
+    let mut rest = p;
     let mut t = to;
-    while i < n {
-        let o = octet_at(p, i);
-        let value = o.value;
-        out[t] = value as u8;
+    while let Some(octet) = octet_at(rest) {
+        out[t] = octet.value as u8;
         t += 1;
-        i += o.size;
+        rest = &rest[octet.size..];
     }
     t
 }
 
 // The labels of a run from `at` on, after `sum` bits of it: the header at `to`, then the bits, the right label's first.
-fn pack_run(text: &[u8], at: usize, sum: usize, to: usize, out: &mut [u8]) -> names::Run
+fn pack_run(text: &[u8], at: usize, sum: usize, to: usize, out: &mut [u8]) -> Run
     requires standing { Standing text.now at }
     requires at_bound { (sum + length (run_bits (rest_of text.now at)) ≤ 2040) × ((to + 2) * 8 + length (run_bits (rest_of text.now at)) ≤ length out.old * 8) × (length out.old ≡ 255) × Clean out.old to }
     ensures { Ran text.now out.old out.new at sum to result }
 {
-    let e = next_dot(text, at);
-    if !is_bits(text, at) {
+    if !is_bits(&text[at..]) {
         out[to] = 65;
         out[to + 1] = (sum % 256) as u8;
-        let packer = bits::inside::Packer {
-            to: to + 2,
-            have: 0,
-            value: 0,
+        return Run {
+            end: at,
+            packer: Packer::new(to + 2),
         };
-        return names::Run { end: at, packer };
     }
-    let l = read_part(&text[at..e]);
-    let n = l.size;
+    let e = next_dot(text, at);
+    let Ok(Part::Bits(n)) = read_part(&text[at..e]) else {
+        unreachable!()
+    };
     // Lent on by `[..]` and not by its own name, the slice stays in registers.
-    let r = pack_run(&text[..], e + 1, sum + n, to, out);
-    let end = r.end;
-    let p = r.packer;
-    let packer = append_digits(&text[at..e], n, out, p);
-    names::Run { end, packer }
+    let run = pack_run(&text[..], e + 1, sum + n, to, out);
+    let packer = append_digits(&text[at..e], n, out, run.packer);
+    Run {
+        end: run.end,
+        packer,
+    }
 }
 
 // The first n bits of the hex digits of a bit label, after those that are packed.
-fn append_digits(
-    p: &[u8],
-    n: usize,
-    out: &mut [u8],
-    packer: bits::inside::Packer,
-) -> bits::inside::Packer
+fn append_digits(p: &[u8], n: usize, out: &mut [u8], packer: Packer) -> Packer
     requires ready { Ready out.old packer n }
     requires n_bound { digits_for n ≤ leading is_hex (drop 3 p.now) }
     ensures { Pushed out.old out.new packer result (unpack n (bit_octets p.now)) }
@@ -675,12 +544,12 @@ fn append_digits(
     let mut i: usize = 3;
     let mut left = n;
     while 4 <= left {
-        q = bits::inside::push(out, q, 4, hex_value(p[i]));
+        q = q.push(out, 4, hex_value(p[i]));
         i += 1;
         left -= 4;
     }
     if left == 0 {
         return q;
     }
-    bits::inside::push(out, q, left, hex_value(p[i]) >> (4 - left))
+    q.push(out, left, hex_value(p[i]) >> (4 - left))
 }

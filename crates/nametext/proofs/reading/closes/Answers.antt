@@ -1,13 +1,8 @@
--- `nametext::reading::closes` meets its contract: one law for each return.
-use Rattle.nametext.proofs.BitPartLaws.{closed, not_closed}
+-- `nametext::reading::closes` meets its contract: more than one octet is no bracket alone.
+use mathlib.Core.Path.{sym}
+use native.Mathlib.Omega.{arith}
+use Rattle.nametext.proofs.BitPartLaws.{not_alone}
 use Rattle.nametext.proofs.reading.closes.Goals as goal
 
-pub returns-then-p-at-ne1 : goal.returns-then-p-at-ne1
-returns-then-p-at-ne1 c =
-    let a = c.args in
-    not_closed a.p.now a.at c.requires c.if-p-at-ne1.true
-
-pub returns : goal.returns
-returns c =
-    let a = c.args in
-    closed a.p.now a.at c.if-p-at-ne1.false
+pub returns-in_default-3 : goal.returns-in_default-3
+returns-in_default-3 c = sym (not_alone 93 c.args.rest.now (λ e. omega (arith, c.in_default.len_at_least)))

@@ -1,59 +1,80 @@
 -- `nametext::reading::counted_part` meets its contract: one law for each return.
-use Rattle.nametext.proofs.BitPartLaws.{slash_inside, last_hex, found_formed, found_next, next_inside, no_decimal, open_counted, wrong_digits, bits_set, large_counted, part_counted}
+use Rattle.std.specs.Int.{div_ceil}
+use Prim.Native.Nat.{ℕ, ◌+◌, ◌/◌, ◌≤◌}
+use mathlib.Core.List.{[], ◌∷◌}
+use mathlib.Core.Path.{◌≡◌, sym, ◌∙◌}
+use lib.ListN.{length, drop}
 use native.Mathlib.Omega.{arith}
+use borrow.Author.Rules.{rules}
 use borrow.Author.Tests.{not-true, not-false}
-use mathlib.Core.Path.{sym, ◌∙◌}
-use Prim.Native.Nat.{◌+◌}
+use Rattle.octets.specs.Octets.{same}
+use Rattle.text.specs.Decimal.{digit_count, is_decimal}
+use Rattle.text.proofs.RunLaws.{rest_whole}
+use Rattle.nametext.proofs.BitPartLaws.{slash_inside, last_hex, found_formed, found_next, next_inside, no_decimal, open_counted, wrong_digits, bits_set, large_counted, part_counted}
+use Rattle.nametext.proofs.reading.counted_part.Goals.{After-read_decimal-t, After-closes, After-read_quarters-v, then-not-t-via-then-not-t, then-not-t-via-else-not-t+then-not-closes, then-v-div_ceil-via-then-v-div_ceil, then-v-div_ceil-via-else-v-div_ceil+then-not-is_clear}
 use Rattle.nametext.proofs.reading.counted_part.Goals as goal
 
 pub overflow_add-from : goal.overflow_add-from
 overflow_add-from c = omega (arith, slash_inside c.args.p.now c.args.e c.requires.3)
+
+-- the place after the count
+next : (c : After-read_decimal-t) → c.read_decimal-t.result.next ≡ c.args.e + 1 + digit_count (drop (c.args.e + 1) c.args.p.now)
+next c = found_next c.read_decimal-t.result c.args.p.now (c.args.e + 1) 256 c.read_decimal-t.ensures
+
+within : (c : After-read_decimal-t) → c.read_decimal-t.result.next ≤ length c.args.p.now
+within c = next_inside c.args.p.now (c.args.e + 1) c.read_decimal-t.result.next (next c) (omega (arith, slash_inside c.args.p.now c.args.e c.requires.3))
+
+formed : (c : After-read_decimal-t) → c.read_decimal-t.result.formed ≡ is_decimal (drop (c.args.e + 1) c.args.p.now)
+formed c = found_formed c.read_decimal-t.result c.args.p.now (c.args.e + 1) 256 c.read_decimal-t.ensures
+
+closed : (c : After-closes) → c.closes.result ≡ same (drop c.read_decimal-t.result.next c.args.p.now) (93 ∷ [])
+closed c = rw (rest_whole c.args.p.now c.read_decimal-t.result.next) at c.closes.ensures
+
+pub slice_bounds-closes-count : goal.slice_bounds-closes-count
+slice_bounds-closes-count c = within (goal.at.slice_bounds-closes-count c).After-read_decimal-t
+
+pub slice_bounds-closes-start : goal.slice_bounds-closes-start
+slice_bounds-closes-start c =
+    let h : c.read_decimal-t.result.next ≤ length c.args.p.now = within (goal.at.slice_bounds-closes-start c).After-read_decimal-t in
+    search rules
 
 pub returns-then-not-t : goal.returns-then-not-t
 returns-then-not-t c =
     let a = c.args in
     let r = c.requires in
     let d = c.read_decimal-t in
-    c.refused.ensures ∙ no_decimal a.p.now a.e r.0 r.3 (sym (found_formed d.result a.p.now (a.e + 1) 256 d.ensures) ∙ not-true d.result.formed c.if-not-t.true)
-
-pub closes-requires : goal.closes-requires
-closes-requires c =
-    let a = c.args in
-    let d = c.read_decimal-t in
-    next_inside a.p.now (a.e + 1) d.result.next (found_next d.result a.p.now (a.e + 1) 256 d.ensures) (omega (arith, slash_inside a.p.now a.e c.requires.3))
-
-pub returns-then-not-closes : goal.returns-then-not-closes
-returns-then-not-closes c =
-    let a = c.args in
-    let r = c.requires in
-    let d = c.read_decimal-t in
-    c.refused-then-not-closes.ensures ∙ open_counted a.p.now a.e r.0 r.3 d.result.next (found_next d.result a.p.now (a.e + 1) 256 d.ensures) (sym c.closes.ensures ∙ c.if-not-closes.true)
+    let here = (goal.at.returns-then-not-t c).After-read_decimal-t in
+    elim c.then-not-t.branch [
+      | then-not-t-via-then-not-t w ↦ no_decimal a.p.now a.e r.0 r.3 (sym (formed here) ∙ not-true d.result.formed w.if-not-t.true)
+      | then-not-t-via-else-not-t+then-not-closes w ↦
+          open_counted a.p.now a.e r.0 r.3 d.result.next (next here)
+          (sym (rw (rest_whole a.p.now d.result.next) at w.closes.ensures) ∙ w.if-not-closes.true)
+    ]
 
 pub read_quarters-v-requires : goal.read_quarters-v-requires
 read_quarters-v-requires c = omega (arith, slash_inside c.args.p.now c.args.e c.requires.3)
-
-pub returns-then-v-d : goal.returns-then-v-d
-returns-then-v-d c =
-    let a = c.args in
-    let r = c.requires in
-    let v = c.read_quarters-v in
-    c.refused-then-v-d.ensures ∙ wrong_digits a.p.now a.e r.0 r.3 v.result v.ensures c.if-v-d.true
 
 pub bounds-p-e : goal.bounds-p-e
 bounds-p-e c = omega (arith, slash_inside c.args.p.now c.args.e c.requires.3)
 
 pub is_clear-requires : goal.is_clear-requires
-is_clear-requires c =
-    let a = c.args in
-    let r = c.requires in
-    (last_hex a.p.now a.e r.0 r.1, c.read_quarters-v.ensures.rest)
+is_clear-requires c = (last_hex c.args.p.now c.args.e c.requires.0 c.requires.1, c.read_quarters-v.ensures.rest)
 
-pub returns-then-not-is_clear : goal.returns-then-not-is_clear
-returns-then-not-is_clear c =
+-- the digits that the count needs
+digits : (c : After-read_quarters-v) (n : ℕ) → n ≡ div_ceil c.read_quarters-v.result.rest 4 → n ≡ (c.read_quarters-v.result.rest + 3) / 4
+digits c n e = omega arith
+
+pub returns-then-v-div_ceil : goal.returns-then-v-div_ceil
+returns-then-v-div_ceil c =
     let a = c.args in
     let r = c.requires in
     let v = c.read_quarters-v in
-    c.refused-then-not-is_clear.ensures ∙ bits_set a.p.now a.e r.0 r.3 v.result v.ensures c.if-v-d.false r.1 (sym c.is_clear.ensures ∙ c.if-not-is_clear.true)
+    let n = digits (goal.at.returns-then-v-div_ceil c).After-read_quarters-v c.div_ceil.result c.div_ceil.ensures in
+    elim c.then-v-div_ceil.branch [
+      | then-v-div_ceil-via-then-v-div_ceil w ↦ wrong_digits a.p.now a.e r.0 r.3 v.result v.ensures (rw n at w.if-v-div_ceil.true)
+      | then-v-div_ceil-via-else-v-div_ceil+then-not-is_clear w ↦
+          bits_set a.p.now a.e r.0 r.3 v.result v.ensures (rw n at w.if-v-div_ceil.false) r.1 (sym w.is_clear.ensures ∙ w.if-not-is_clear.true)
+    ]
 
 pub returns-then-d-gt64 : goal.returns-then-d-gt64
 returns-then-d-gt64 c =
@@ -61,9 +82,11 @@ returns-then-d-gt64 c =
     let r = c.requires in
     let v = c.read_quarters-v in
     let d = c.read_decimal-t in
-    c.refused-then-d-gt64.ensures ∙ large_counted a.p.now a.e r.0 r.3 v.result v.ensures c.if-v-d.false r.1 r.2
-    (sym (found_formed d.result a.p.now (a.e + 1) 256 d.ensures) ∙ not-false d.result.formed c.if-not-t.false)
-    d.result.next (found_next d.result a.p.now (a.e + 1) 256 d.ensures) (sym c.closes.ensures ∙ c.if-not-closes.false)
+    let here = (goal.at.returns-then-d-gt64 c).After-read_decimal-t in
+    let n = digits (goal.at.returns-then-d-gt64 c).After-read_quarters-v c.div_ceil.result c.div_ceil.ensures in
+    large_counted a.p.now a.e r.0 r.3 v.result v.ensures (rw n at c.if-v-div_ceil.false) r.1 r.2
+    (sym (formed here) ∙ not-false d.result.formed c.if-not-t.false)
+    d.result.next (next here) (sym (closed (goal.at.returns-then-d-gt64 c).After-closes) ∙ c.if-not-closes.false)
     (sym c.is_clear.ensures ∙ c.if-not-is_clear.false) c.if-d-gt64.true
 
 pub returns : goal.returns
@@ -72,7 +95,9 @@ returns c =
     let r = c.requires in
     let v = c.read_quarters-v in
     let d = c.read_decimal-t in
-    part_counted a.p.now a.e r.0 r.3 v.result v.ensures c.if-v-d.false r.1 r.2
-    (sym (found_formed d.result a.p.now (a.e + 1) 256 d.ensures) ∙ not-false d.result.formed c.if-not-t.false)
-    d.result.next (found_next d.result a.p.now (a.e + 1) 256 d.ensures) (sym c.closes.ensures ∙ c.if-not-closes.false)
+    let here = (goal.at.returns c).After-read_decimal-t in
+    let n = digits (goal.at.returns c).After-read_quarters-v c.div_ceil.result c.div_ceil.ensures in
+    part_counted a.p.now a.e r.0 r.3 v.result v.ensures (rw n at c.if-v-div_ceil.false) r.1 r.2
+    (sym (formed here) ∙ not-false d.result.formed c.if-not-t.false)
+    d.result.next (next here) (sym (closed (goal.at.returns c).After-closes) ∙ c.if-not-closes.false)
     (sym c.is_clear.ensures ∙ c.if-not-is_clear.false) c.if-d-gt64.false

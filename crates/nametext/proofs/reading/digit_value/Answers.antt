@@ -9,4 +9,4 @@ overflow_sub-x c = (between_is 48 57 c.args.x c.requires).0
 pub returns : goal.returns
 returns c =
     let d = between_is 48 57 c.args.x c.requires in
-    (c.wide.ensures.0, omega (arith, c.wide.ensures.0))
+    (c.from.ensures, omega (arith, c.from.ensures))
