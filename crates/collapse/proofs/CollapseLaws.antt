@@ -1,4 +1,12 @@
 -- The number of a collapse, test by test; its answer and its output by the number.
+use Rattle.std.specs.Prelude.{Result, Ok, Err}
+use Rattle.std.specs.Result.{is_err}
+use Rattle.octets.specs.declared.Done.{Done}
+use Rattle.octets.specs.Refusals.{code_of}
+use Rattle.octets.proofs.RefusalLaws.{code_some}
+use Rattle.plan.specs.declared.Refused.{Refused}
+use Rattle.plan.specs.declared.Reply.{Reply}
+use Rattle.plan.specs.Faults.{replying, replied}
 use Prim.Native.Nat.{ℕ, ◌-◌, ◌*◌, ◌/◌, ◌%◌, ◌≤◌, ◌<◌, min}
 use mathlib.Core.Path.{◌≡◌, refl, ap, ◌∙◌, sym}
 use mathlib.Core.Bool.{Bool, true, false}
@@ -8,11 +16,12 @@ use lib.Dec.{ltb}
 use lib.ListN.{length}
 use borrow.Author.Tests.{ltb-true, ltb-false, lt-ltb, le-ltb, eq-eqb, ne_eqb}
 use Rattle.octets.proofs.BoolLaws.{or_true}
-use Rattle.octets.specs.Octets.{blank, flat}
+use Rattle.octets.specs.Octets.{blank, flat, Small}
 use Rattle.octets.specs.Answers.{answering}
-use Rattle.octets.proofs.AnswerLaws.{else_kept, else_later, done_answer, done_out}
+use Rattle.octets.proofs.AnswerLaws.{else_kept, else_later, by_number, done_answer, done_out, refused_out}
 use Rattle.labels.specs.Scan.{well_formed}
-use Rattle.names.specs.Standard.{Same}
+use Rattle.names.specs.Standard.{Same, standard_of}
+use Rattle.names.proofs.RoundLaws.{standard_formed, same_standard}
 use Rattle.plan.specs.Layout.{record_size, max_records}
 use Rattle.plan.specs.Check.{entry_number}
 use Rattle.plan.proofs.LayoutLaws.{octets_length}
@@ -87,3 +96,15 @@ module _ (t x y : List ℕ) (size : ℕ) (e : Same x y) (w : well_formed x ≡ w
 
   pub out_same : collapse_out t x size ≡ collapse_out t y size
   out_same = rw (number_same, fold_same x y e t)
+
+-- a well-formed name and its standard form
+pub given_same : (t x s : List ℕ) (size : ℕ) → Small x → well_formed x ≡ true → s ≡ standard_of x → (collapse_answer t s size ≡ collapse_answer t x size) × (collapse_out t s size ≡ collapse_out t x size)
+given_same t x s size m w e =
+    let g = same_standard x m w in
+    let f = standard_formed x m w ∙ sym w in
+    (ap (λ (y : List ℕ). collapse_answer t y size) e ∙ answer_same t (standard_of x) x size g f, ap (λ (y : List ℕ). collapse_out t y size) e ∙ out_same t (standard_of x) x size g f)
+
+-- what is refused leaves zeros
+pub refused_clears : (t x : List ℕ) (size : ℕ) (r : Result Done Refused) → is_err r ≡ true → replied r ≡ replying t (collapse_answer t x size) → blank size ≡ collapse_out t x size
+refused_clears t x size (Ok d) h e = cc
+refused_clears t x size (Err f) h e = refused_out (code_of f.refusal) _ (ap (λ (y : Reply). y.answer.number) e ∙ by_number (number_of t x size) _ _) (code_some f.refusal) _ size

@@ -6,6 +6,7 @@ pub mod OrderedLaws
 pub mod Kept
 pub mod LinkLaws
 pub mod RunningLaws
+pub mod WalkLaws
 pub mod CollapseLaws
 pub mod Demanded
 pub mod Contract

@@ -1,4 +1,5 @@
 -- Laws of the running pieces: the tests in the order of the code, test 9 by two numbers, and records stored one after the other.
+use Rattle.std.specs.Prelude.{Option, Some, None}
 use Prim.Native.Nat.{ℕ, zero, suc, ◌+◌, ◌-◌, ◌*◌, ◌/◌, ◌≤◌, ◌<◌, min, max}
 use mathlib.Core.Path.{◌≡◌, refl, sym, ap, ◌∙◌}
 use mathlib.Core.Bool.{Bool, true, false, ◌&&◌}
@@ -6,54 +7,27 @@ use mathlib.Core.List.{List, [], ◌∷◌, ◌++◌, append_assoc, append-nil}
 use native.Mathlib.Omega.{arith}
 use native.Mathlib.Numerals.{add-one}
 use native.Mathlib.Nat.{add-zero, suc-mul}
-use lib.Dec.{leb, ltb, eqb}
+use lib.Dec.{ltb, eqb}
 use lib.ListN.{length, take, drop, length-append, length-drop, drop_of_length-le}
 use lib.Seq.{paste, take_at, drop-drop, drop-append-add, take_all, length-take-le}
-use borrow.Author.Tests.{lt-ltb, le-ltb, le-leb, lt-leb, ltb-true, ltb-false, eqb-true, eqb-false}
-use Rattle.octets.proofs.BoolLaws.{and_true, clash, refuted}
-use Rattle.plan.proofs.FaultLaws.{type_is, type_not}
+use borrow.Author.Tests.{lt-ltb, le-ltb, ltb-true, ltb-false, eqb-true, eqb-false}
+use Rattle.octets.proofs.BoolLaws.{clash, refuted}
 use Rattle.octets.specs.Octets.{blank, flat}
 use Rattle.names.specs.Standard.{Same, same_name}
 use Rattle.chains.specs.Lists.{pick, up_to}
-use Rattle.chains.proofs.ListLaws.{pick_true, pick_false, up_to_same}
+use Rattle.chains.proofs.ListLaws.{pick_true, pick_false, both_true, up_to_same}
 use Rattle.plan.specs.First.{some}
-use Rattle.plan.specs.Layout.{record_size, a6, type_of, prefix_of, is_a6, owner_of, target_of, count_of, record_at, prefix_at}
-use Rattle.plan.specs.Check.{InOrder}
-use Rattle.plan.proofs.LayoutLaws.{Whole, record_length, octets_length}
-use Rattle.plan.proofs.OrderLaws.{order_good}
-use Rattle.collapse.specs.Fold.{leads, unfinished, continues, refers, ignores, reviving, made_of, place_of, fold_of}
-use Rattle.collapse.specs.declared.Span.{Span}
-use Rattle.collapse.specs.Running.{Fit, least_of, most_of, span_of, stored_one, stored, Put}
+use Rattle.plan.specs.Layout.{record_size, prefix_of, is_a6, owner_of, target_of, count_of, record_at, prefix_at}
+use Rattle.plan.proofs.LayoutLaws.{Whole, octets_length}
+use Rattle.collapse.specs.Fold.{leads, unfinished, continues, refers, ignores, reviving, joined_of, made_of, place_of, fold_of}
+use Rattle.collapse.specs.Running.{lesser_of, greater_of, least_of, most_of, span_of, lies_below, crossed, made_by, stored_one, stored}
 use Rattle.collapse.proofs.TestLaws.{reviving_is, is_reviving, unfinished_is, is_unfinished, refers_is, is_refers}
 use Rattle.collapse.proofs.FoldLaws.{made_on, made_off}
 
--- ---- the tests of records, in the order of the code
-first_no : (a b c : Bool) → a ≡ false → a && b && c ≡ false
-first_no a b c e = rw e
-
-second_no : (a b c : Bool) → b ≡ false → a && b && c ≡ false
-second_no true b c e = rw e
-second_no false b c e = refl
-
-third : (a b c : Bool) → a ≡ true → b ≡ true → a && b && c ≡ c
-third a b c e f = rw (e, f)
-
-module _ (r : List ℕ) (b : Bool) where
-  pub leads_other : (type_of r ≡ a6 → ⊥) → leads r && b ≡ false
-  leads_other h = first_no (is_a6 r) (ltb 0 (prefix_of r)) b (type_not r h)
-
-  pub leads_zero : prefix_of r ≡ 0 → leads r && b ≡ false
-  leads_zero h = second_no (is_a6 r) (ltb 0 (prefix_of r)) b (le-ltb 0 (prefix_of r) (omega arith))
-
-  pub leads_on : type_of r ≡ a6 → (prefix_of r ≡ 0 → ⊥) → leads r && b ≡ b
-  leads_on k h = third (is_a6 r) (ltb 0 (prefix_of r)) b (type_is r k) (lt-ltb 0 (prefix_of r) (omega (arith, h)))
-
--- a record that has a target, by its fields and back
-pub leads_is : (r : List ℕ) → type_of r ≡ a6 → (prefix_of r ≡ 0 → ⊥) → leads r ≡ true
-leads_is r k h = sym (and_true (leads r)) ∙ leads_on r true k h
-
+-- ---- the tests of records
+-- a record that has a target has a prefix length over 0
 pub leads_some : (r : List ℕ) → leads r ≡ true → prefix_of r ≡ 0 → ⊥
-leads_some r h z = clash (and_true (leads r) ∙ h) (leads_zero r true z)
+leads_some r h z = omega (arith, ltb-true 0 (prefix_of r) (both_true (is_a6 r) (ltb 0 (prefix_of r)) h).1)
 
 module _ (x r : List ℕ) where
   pub unfinished_leads : unfinished x r ≡ (leads r && same_name (owner_of r) x)
@@ -64,136 +38,152 @@ module _ (x r : List ℕ) where
   unfolding refers
   refers_leads = refl
 
-module _ (r q : List ℕ) where
-  pub continues_other : (type_of q ≡ a6 → ⊥) → continues r q ≡ false
-  unfolding continues
-  continues_other h = first_no (is_a6 q) (leb (prefix_of q) (prefix_of r)) (same_name (owner_of q) (target_of r)) (type_not q h)
-
-  pub continues_long : prefix_of r < prefix_of q → continues r q ≡ false
-  unfolding continues
-  continues_long h = second_no (is_a6 q) (leb (prefix_of q) (prefix_of r)) (same_name (owner_of q) (target_of r)) (lt-leb (prefix_of q) (prefix_of r) h)
-
-  pub continues_on : type_of q ≡ a6 → prefix_of q ≤ prefix_of r → continues r q ≡ same_name (owner_of q) (target_of r)
-  unfolding continues
-  continues_on k h = third (is_a6 q) (leb (prefix_of q) (prefix_of r)) (same_name (owner_of q) (target_of r)) (type_is q k) (le-leb (prefix_of q) (prefix_of r) h)
-
 -- ---- the least and the greatest value of those that pass a test
+lesser_own : (o : Option ℕ) (x : ℕ) → lesser_of o x ≤ x
+lesser_own None x = omega arith
+lesser_own (Some b) x = omega arith
+
+greater_own : (o : Option ℕ) (x : ℕ) → x ≤ greater_of o x
+greater_own None x = omega arith
+greater_own (Some b) x = omega arith
+
 module _ (f : ℕ → Bool) (v : ℕ → ℕ) where
-  pub least_more : (n : ℕ) → least_of f v (n + 1) ≡ pick (f n) (min (least_of f v n) (v n)) (least_of f v n)
-  unfolding least_of
-  least_more n = rw (add-one n)
-
-  pub most_more : (n : ℕ) → most_of f v (n + 1) ≡ pick (f n) (max (most_of f v n) (v n)) (most_of f v n)
-  unfolding most_of
-  most_more n = rw (add-one n)
-
-  least_le : (n i : ℕ) → i < n → f i ≡ true → least_of f v n ≤ v i
+  least_le : (n i : ℕ) → i < n → f i ≡ true → (j : ℕ) × (least_of f v n ≡ Some j) × (j ≤ v i)
   unfolding least_of
   least_le zero i h e = let z : ⊥ = omega arith in absurd z
   least_le (suc n) i h e = go (f n) refl (eqb i n) refl (λ k. least_le n i k e)
     where
-      go : (b : Bool) → f n ≡ b → (d : Bool) → eqb i n ≡ d → (i < n → least_of f v n ≤ v i) → pick b (min (least_of f v n) (v n)) (least_of f v n) ≤ v i
-      go true p true q ih = let s = ap v (eqb-true i n q) in omega arith
-      go true p false q ih = let d = eqb-false i n q in let k = ih (omega (arith, d)) in omega arith
+      go : (b : Bool) → f n ≡ b → (d : Bool) → eqb i n ≡ d → (i < n → (j : ℕ) × (least_of f v n ≡ Some j) × (j ≤ v i))
+          → (j : ℕ) × (pick b (Some (lesser_of (least_of f v n) (v n))) (least_of f v n) ≡ Some j) × (j ≤ v i)
+      go true p true q ih = (lesser_of (least_of f v n) (v n), refl, omega (arith, lesser_own (least_of f v n) (v n), ap v (eqb-true i n q)))
+      go true p false q ih =
+          let d = eqb-false i n q in
+          let k = ih (omega (arith, d)) in
+          (lesser_of (Some k.0) (v n), ap (λ (o : Option ℕ). Some (lesser_of o (v n))) k.1, omega (arith, k.2))
       go false p true q ih = absurd (clash (ap f (sym (eqb-true i n q)) ∙ e) p)
       go false p false q ih = let d = eqb-false i n q in ih (omega (arith, d))
 
-  most_ge : (n i : ℕ) → i < n → f i ≡ true → v i ≤ most_of f v n
+  most_ge : (n i : ℕ) → i < n → f i ≡ true → (j : ℕ) × (most_of f v n ≡ Some j) × (v i ≤ j)
   unfolding most_of
   most_ge zero i h e = let z : ⊥ = omega arith in absurd z
   most_ge (suc n) i h e = go (f n) refl (eqb i n) refl (λ k. most_ge n i k e)
     where
-      go : (b : Bool) → f n ≡ b → (d : Bool) → eqb i n ≡ d → (i < n → v i ≤ most_of f v n) → v i ≤ pick b (max (most_of f v n) (v n)) (most_of f v n)
-      go true p true q ih = let s = ap v (eqb-true i n q) in omega arith
-      go true p false q ih = let d = eqb-false i n q in let k = ih (omega (arith, d)) in omega arith
+      go : (b : Bool) → f n ≡ b → (d : Bool) → eqb i n ≡ d → (i < n → (j : ℕ) × (most_of f v n ≡ Some j) × (v i ≤ j))
+          → (j : ℕ) × (pick b (Some (greater_of (most_of f v n) (v n))) (most_of f v n) ≡ Some j) × (v i ≤ j)
+      go true p true q ih = (greater_of (most_of f v n) (v n), refl, omega (arith, greater_own (most_of f v n) (v n), ap v (eqb-true i n q)))
+      go true p false q ih =
+          let d = eqb-false i n q in
+          let k = ih (omega (arith, d)) in
+          (greater_of (Some k.0) (v n), ap (λ (o : Option ℕ). Some (greater_of o (v n))) k.1, omega (arith, k.2))
       go false p true q ih = absurd (clash (ap f (sym (eqb-true i n q)) ∙ e) p)
       go false p false q ih = let d = eqb-false i n q in ih (omega (arith, d))
 
-  -- one that passes has the value, where it is not the one for none
+  -- one that passes has the value
   Has : ℕ → ℕ → Type 0
   Has n k = (i : ℕ) × (i < n) × (f i ≡ true) × (v i ≡ k)
 
-  least_is : (n : ℕ) → least_of f v n < 255 → Has n (least_of f v n)
+  least_is : (n k : ℕ) → least_of f v n ≡ Some k → Has n k
   unfolding least_of Has
-  least_is zero h = let z : ⊥ = omega arith in absurd z
-  least_is (suc n) h = go (f n) refl h (λ k. least_is n k)
+  least_is zero k e = cc
+  least_is (suc n) k e = go (f n) refl (least_of f v n) refl e (least_is n)
     where
-      go : (b : Bool) → f n ≡ b → pick b (min (least_of f v n) (v n)) (least_of f v n) < 255 → (least_of f v n < 255 → Has n (least_of f v n)) → Has (suc n) (pick b (min (least_of f v n) (v n)) (least_of f v n))
-      go true p k ih = less (ltb (least_of f v n) (v n)) refl
+      go : (b : Bool) → f n ≡ b → (o : Option ℕ) → least_of f v n ≡ o → pick b (Some (lesser_of o (v n))) o ≡ Some k → ((j : ℕ) → least_of f v n ≡ Some j → Has n j) → Has (suc n) k
+      go true p None q e ih = let z : v n ≡ k = cc in (n, omega arith, p, z)
+      go true p (Some j) q e ih = less (ltb j (v n)) refl
         where
-          less : (d : Bool) → ltb (least_of f v n) (v n) ≡ d → Has (suc n) (min (least_of f v n) (v n))
-          less true q = let w = ltb-true (least_of f v n) (v n) q in let r = ih (omega arith) in (r.0, omega (arith, r.1), r.2, omega (arith, r.3))
-          less false q = let w = ltb-false (least_of f v n) (v n) q in (n, omega arith, p, omega arith)
-      go false p k ih = let r = ih k in (r.0, omega (arith, r.1), r.2, r.3)
+          z : min j (v n) ≡ k
+          z = cc
 
-  most_is : (n : ℕ) → 0 < most_of f v n → Has n (most_of f v n)
+          less : (d : Bool) → ltb j (v n) ≡ d → Has (suc n) k
+          less true w = let l = ltb-true j (v n) w in let r = ih j q in (r.0, omega (arith, r.1), r.2, omega (arith, r.3, z))
+          less false w = let l = ltb-false j (v n) w in (n, omega arith, p, omega (arith, z))
+      go false p o q e ih = let r = ih k (q ∙ e) in (r.0, omega (arith, r.1), r.2, r.3)
+
+  most_is : (n k : ℕ) → most_of f v n ≡ Some k → Has n k
   unfolding most_of Has
-  most_is zero h = let z : ⊥ = omega arith in absurd z
-  most_is (suc n) h = go (f n) refl h (λ k. most_is n k)
+  most_is zero k e = cc
+  most_is (suc n) k e = go (f n) refl (most_of f v n) refl e (most_is n)
     where
-      go : (b : Bool) → f n ≡ b → 0 < pick b (max (most_of f v n) (v n)) (most_of f v n) → (0 < most_of f v n → Has n (most_of f v n)) → Has (suc n) (pick b (max (most_of f v n) (v n)) (most_of f v n))
-      go true p k ih = less (ltb (v n) (most_of f v n)) refl
+      go : (b : Bool) → f n ≡ b → (o : Option ℕ) → most_of f v n ≡ o → pick b (Some (greater_of o (v n))) o ≡ Some k → ((j : ℕ) → most_of f v n ≡ Some j → Has n j) → Has (suc n) k
+      go true p None q e ih = let z : v n ≡ k = cc in (n, omega arith, p, z)
+      go true p (Some j) q e ih = less (ltb (v n) j) refl
         where
-          less : (d : Bool) → ltb (v n) (most_of f v n) ≡ d → Has (suc n) (max (most_of f v n) (v n))
-          less true q = let w = ltb-true (v n) (most_of f v n) q in let r = ih (omega arith) in (r.0, omega (arith, r.1), r.2, omega (arith, r.3))
-          less false q = let w = ltb-false (v n) (most_of f v n) q in (n, omega arith, p, omega arith)
-      go false p k ih = let r = ih k in (r.0, omega (arith, r.1), r.2, r.3)
+          z : max j (v n) ≡ k
+          z = cc
 
--- ---- the records of a table in order
-pub fit : (t : List ℕ) → InOrder t → (i : ℕ) → i < count_of t → Fit (record_at t i)
-fit t o i h = record { whole = record_length t i h; good = order_good t o i h }
+          less : (d : Bool) → ltb (v n) j ≡ d → Has (suc n) k
+          less true w = let l = ltb-true (v n) j w in let r = ih j q in (r.0, omega (arith, r.1), r.2, omega (arith, r.3, z))
+          less false w = let l = ltb-false (v n) j w in (n, omega arith, p, omega (arith, z))
+      go false p o q e ih = let r = ih k (q ∙ e) in (r.0, omega (arith, r.1), r.2, r.3)
 
--- ---- the loop that finds both
-module _ (x t : List ℕ) (i : ℕ) {best p : ℕ} {b : Bool} where
-  pub shortest_turn : b ≡ refers x (record_at t i) → p ≡ prefix_at t i → best ≡ (span_of x t i).shortest → pick b (min best p) best ≡ (span_of x t (i + 1)).shortest
-  unfolding span_of
-  shortest_turn e f g = rw (least_more (λ j. refers x (record_at t j)) (prefix_at t) i, e, f, g)
+-- ---- the loop that finds both: one record more
+module _ (x t : List ℕ) (i : ℕ) where
+  pub shortest_on : refers x (record_at t i) ≡ true → Some (lesser_of (span_of x t i).shortest (prefix_at t i)) ≡ (span_of x t (i + 1)).shortest
+  unfolding span_of least_of
+  shortest_on e = rw (add-one i, least_of, e)
 
-  pub longest_turn : b ≡ unfinished x (record_at t i) → p ≡ prefix_at t i → best ≡ (span_of x t i).longest → pick b (max best p) best ≡ (span_of x t (i + 1)).longest
-  unfolding span_of
-  longest_turn e f g = rw (most_more (λ j. unfinished x (record_at t j)) (prefix_at t) i, e, f, g)
+  pub shortest_off : refers x (record_at t i) ≡ false → (span_of x t i).shortest ≡ (span_of x t (i + 1)).shortest
+  unfolding span_of least_of
+  shortest_off e = rw (add-one i, least_of, e)
 
-pub span_is : (x t : List ℕ) (i n : ℕ) {s l : ℕ} → i ≡ n → s ≡ (span_of x t i).shortest → l ≡ (span_of x t i).longest → ◌≡◌ {A = Span} (record { shortest = s; longest = l }) (span_of x t n)
-unfolding span_of
-span_is x t i n e p q = rw (p, q, e)
+  pub longest_on : unfinished x (record_at t i) ≡ true → Some (greater_of (span_of x t i).longest (prefix_at t i)) ≡ (span_of x t (i + 1)).longest
+  unfolding span_of most_of
+  longest_on e = rw (add-one i, most_of, e)
+
+  pub longest_off : unfinished x (record_at t i) ≡ false → (span_of x t i).longest ≡ (span_of x t (i + 1)).longest
+  unfolding span_of most_of
+  longest_off e = rw (add-one i, most_of, e)
 
 -- ---- test 9: the shortest referrer against the longest unfinished record
-module _ (x t : List ℕ) (o : InOrder t) where
+module _ (x t : List ℕ) where
   abbrev R : ℕ → Bool
   R i = refers x (record_at t i)
 
   abbrev U : ℕ → Bool
   U i = unfinished x (record_at t i)
 
-  pub revives_by : (span_of x t (count_of t)).shortest < (span_of x t (count_of t)).longest → reviving x t ≡ true
+  pub revives_by : crossed (span_of x t (count_of t)) ≡ true → reviving x t ≡ true
   unfolding span_of Has
-  revives_by h =
-      let u = most_is U (prefix_at t) (count_of t) (omega arith) in
-      let s = (order_good t o u.0 u.1).prefix in
-      let p = least_is R (prefix_at t) (count_of t) (omega (arith, u.3)) in
-      is_reviving x t (record {
-        referrer = p.0;
-        there = p.1;
-        refers = refers_is x (record_at t p.0) p.2;
-        own = u.0;
-        here = u.1;
-        unfinished = unfinished_is x (record_at t u.0) u.2;
-        shorter = omega (arith, p.3, u.3);
-      })
+  revives_by h = go (least_of R (prefix_at t) (count_of t)) refl (most_of U (prefix_at t) (count_of t)) refl h
+    where
+      go : (s : Option ℕ) → least_of R (prefix_at t) (count_of t) ≡ s → (l : Option ℕ) → most_of U (prefix_at t) (count_of t) ≡ l → lies_below s l ≡ true → reviving x t ≡ true
+      go None p l q e = absurd (clash e refl)
+      go (Some a) p None q e = absurd (clash e refl)
+      go (Some a) p (Some b) q e =
+          let r = least_is R (prefix_at t) (count_of t) a p in
+          let u = most_is U (prefix_at t) (count_of t) b q in
+          is_reviving x t (record {
+            referrer = r.0;
+            there = r.1;
+            refers = refers_is x (record_at t r.0) r.2;
+            own = u.0;
+            here = u.1;
+            unfinished = unfinished_is x (record_at t u.0) u.2;
+            shorter = omega (arith, ltb-true a b e, r.3, u.3);
+          })
 
-  pub quiet_by : (span_of x t (count_of t)).longest ≤ (span_of x t (count_of t)).shortest → reviving x t ≡ false
+  pub quiet_by : crossed (span_of x t (count_of t)) ≡ false → reviving x t ≡ false
   unfolding span_of
   quiet_by h = refuted (reviving x t) (λ e.
       let v = reviving_is x t e in
       let a = least_le R (prefix_at t) (count_of t) v.referrer v.there (is_refers x (record_at t v.referrer) v.refers) in
       let b = most_ge U (prefix_at t) (count_of t) v.own v.here (is_unfinished x (record_at t v.own) v.unfinished) in
-      omega (arith, v.shorter))
+      let k : lies_below (Some a.0) (Some b.0) ≡ false = rw (a.1, b.1) at h in
+      omega (arith, ltb-false a.0 b.0 k, a.2, b.2, v.shorter))
 
 -- ---- records stored one after the other
 module _ (out : List ℕ) (n : ℕ) (r : List ℕ) where
   pub stored_in : n < length out / record_size → stored_one out n r ≡ paste out (n * record_size) r record_size
   unfolding stored_one
   stored_in h = pick_true (ltb n (length out / record_size)) (paste out (n * record_size) r record_size) out (lt-ltb n (length out / record_size) h)
+
+  -- the same as it is written: the octets of that place
+  pub stored_at : (src : List ℕ) (k : ℕ) → n < length out / record_size → src ≡ r → length r ≡ record_size → k ≡ record_size
+      → take (n * record_size) out ++ (src ++ drop k (drop (n * record_size) out)) ≡ stored_one out n r
+  stored_at src k h e l i =
+      let m : n * record_size + record_size ≤ length out = omega arith in
+      rw (e, i) (sym (stored_in h ∙ ap (λ (ys : List ℕ). take (n * record_size) out ++ ys ++ drop (n * record_size + record_size) out) (take_all record_size r (omega arith))
+      ∙ append_assoc (take (n * record_size) out) r (drop (n * record_size + record_size) out) ∙ ap (λ (ys : List ℕ). take (n * record_size) out ++ (r ++ ys)) (sym (drop-drop record_size (n * record_size) out))))
 
   pub stored_out : length out / record_size ≤ n → stored_one out n r ≡ out
   unfolding stored_one
@@ -240,7 +230,19 @@ module _ (f : ℕ → List (List ℕ)) where
       let d : suc n * k ≡ n * k + k = suc-mul n k in
       omega (arith, length-append (up_to n f) (f n))
 
--- how many records r and one other make
+-- what r and one other make
+pub by_on : (r q : List ℕ) → continues r q ≡ true → made_by r q ≡ joined_of r q ∷ []
+unfolding made_by
+by_on r q e = rw e
+
+pub by_off : (r q : List ℕ) → continues r q ≡ false → made_by r q ≡ []
+unfolding made_by
+by_off r q e = rw e
+
+pub made_is : (t r : List ℕ) (j : ℕ) → made_by r (record_at t j) ≡ made_of t r j
+unfolding made_by made_of
+made_is t r j = refl
+
 pub made_few : (t r : List ℕ) (j : ℕ) → length (made_of t r j) ≤ 1
 made_few t r j = go (continues r (record_at t j)) refl
   where
@@ -262,14 +264,12 @@ up_to_grows f i (suc n) h = go (ltb n i) refl (up_to_grows f i n)
     go false e ih = omega (arith, length-append (up_to n f) (f n), ih (ltb-false n i e))
 
 -- all of them were put, or the limit was passed on the way
-pub put_all : (x t : List ℕ) (most : ℕ) (old new : List ℕ) (i n : ℕ) → i ≡ count_of t → n ≡ 0 + length (up_to i (place_of x t)) → new ≡ stored old 0 (up_to i (place_of x t)) → Put x t most old new n
-put_all x t most old new i n d e f =
-    let k : n ≡ length (fold_of x t) = rw (fold_all x t, ← d) (omega arith) in
-    record { all = λ _. (k, rw (fold_all x t, ← d) f); over = λ h. omega arith }
+pub put_whole : (x t : List ℕ) (old new : List ℕ) (i n : ℕ) → i ≡ count_of t → n ≡ 0 + length (up_to i (place_of x t)) → new ≡ stored old 0 (up_to i (place_of x t))
+    → (n ≡ length (fold_of x t)) × (new ≡ stored old 0 (fold_of x t))
+put_whole x t old new i n d e f = (rw (fold_all x t, ← d) (omega arith), rw (fold_all x t, ← d) f)
 
-pub put_over : (x t : List ℕ) (most : ℕ) (old new : List ℕ) (i n : ℕ) → i ≤ count_of t → most < n → n ≡ 0 + length (up_to i (place_of x t)) → Put x t most old new n
-put_over x t most old new i n d h e =
-    record { all = λ k. let z : ⊥ = omega arith in absurd z; over = λ _. rw (fold_all x t) (omega (arith, up_to_grows (place_of x t) i (count_of t) d)) }
+pub put_over : (x t : List ℕ) (most i n : ℕ) → i ≤ count_of t → most < n → n ≡ 0 + length (up_to i (place_of x t)) → most < length (fold_of x t)
+put_over x t most i n d h e = rw (fold_all x t) (omega (arith, up_to_grows (place_of x t) i (count_of t) d))
 
 -- ---- an output with room for all of them
 stored_one_in : (front rest : List ℕ) (n : ℕ) (r : List ℕ) → length front ≡ n * record_size → length r ≡ record_size → record_size ≤ length rest

@@ -1,175 +1,147 @@
 // Collapse of a name (01, Collapse of a name X; T-01): its meaning, its running form, and what no list of collapses changes.
 #![tactic(auto)]
 
-ghost use Rattle.std.specs.Prelude.{◌≡◌, true, ◌&&◌, ◌+◌, ◌*◌, ◌/◌, ◌%◌, ◌≤◌, ◌<◌, min, max, length};
-ghost use Rattle.octets.specs.Octets.{blank};
-ghost use Rattle.octets.specs.Answers.{refusal};
+ghost use Rattle.std.specs.Prelude.{◌≡◌, true, ◌&&◌, ◌+◌, ◌*◌, ◌/◌, ◌%◌, ◌≤◌, ◌<◌, length, MatchOption, OnOk, Some};
+ghost use Rattle.octets.specs.Octets.{flat};
+ghost use Rattle.octets.specs.Refusals.{answered};
 ghost use Rattle.names.specs.Standard.{same_name, in_standard_form};
-ghost use Rattle.address.specs.Address.{join_of};
 ghost use Rattle.chains.specs.Lists.{pick, up_to};
-ghost use Rattle.plan.specs.Layout.{record_size, max_records, slot_size, name_in, prefix_of, prefix_at, address_at, ttl_at, count_of, record_at};
+ghost use Rattle.plan.specs.Layout.{record_size, max_records, name_in, prefix_of, count_of, record_at};
 ghost use Rattle.plan.specs.Check.{InOrder};
-ghost use Rattle.plan.specs.Faults.{replying};
-ghost use Rattle.collapse.specs.Fold.{leads, unfinished, continues, refers, joined_of, made_of, place_of};
+ghost use Rattle.plan.specs.Faults.{replying, replied};
+ghost use Rattle.plan.specs.Good.{Good};
+ghost use Rattle.collapse.specs.Fold.{leads, unfinished, continues, refers, joined_of, made_of, place_of, fold_of};
 ghost use Rattle.collapse.specs.Collapse.{collapse_answer, collapse_out};
-ghost use Rattle.collapse.specs.Running.{Fit, span_of, bucket_of, Linked, stored_one, stored, Put};
+ghost use Rattle.collapse.specs.Running.{lesser_of, greater_of, crossed, span_of, bucket_of, Linked, made_by, stored_one, stored};
+
+use octets::{Done, Refusal};
+use plan::Refused;
+use plan::inside::{Kind, RECORD, SLOT};
 
 // The most records of a table (01, The plan table).
 const MAX_RECORDS: usize = 1024;
 
-// The shortest record that refers to a name, 255 for none, and the longest unfinished record of it, 0 for none.
-#[derive(Clone, Copy)]
-pub struct Span {
-    pub shortest: u8,
-    pub longest: u8,
-}
+// How many buckets the records go into.
+const BUCKETS: usize = 256;
 
 // The table with a name folded: what each unfinished record of it makes with the records of its target stands in its place. Zeros after it; or a
-// refusal (01, What comes back), beside 2 and 3 with the place of the table's fault (T-04).
-pub fn collapse(table: &[u8], name: &[u8], out: &mut [u8]) -> plan::Reply
-    ensures reply { result ≡ replying table.now (collapse_answer table.now name.now (length out.old)) }
+// refusal (01, What comes back), beside 2 and 3 with the place of the table's fault (T-04), and zeros alone.
+pub fn collapse(table: &[u8], name: &[u8], out: &mut [u8]) -> Result<Done, Refused>
+    ensures reply { replied result ≡ replying table.now (collapse_answer table.now name.now (length out.old)) }
     ensures output { out.new ≡ collapse_out table.now name.now (length out.old) }
 {
-    let entered = plan::inside::enter(table, name);
-    let number = entered.number;
-    let fault = entered.fault;
-    let held = entered.name;
-    let standard = held.octets;
-    let n = octets::wide(held.length);
-    if number != 0 {
-        return plan::Reply {
-            answer: refuse(number, out),
-            fault,
-        };
+    let outcome = fill(table, name, out);
+    if outcome.is_err() {
+        octets::clear(out);
     }
-    if out.len() % plan::inside::RECORD != 0 {
-        return plan::Reply {
-            answer: refuse(5, out),
-            fault,
-        };
-    }
-    plan::Reply {
-        answer: fold(table, &standard[..n], out),
-        fault,
-    }
+    outcome
 }
 
-// A refusal by its number, with zeros.
-fn refuse(number: u8, out: &mut [u8]) -> octets::Answer
-    ensures { (result ≡ refusal number) × (out.new ≡ blank (length out.old)) }
+// The same, but what a refusal leaves in the output is left open.
+fn fill(table: &[u8], name: &[u8], out: &mut [u8]) -> Result<Done, Refused>
+    ensures reply { replied result ≡ replying table.now (collapse_answer table.now name.now (length out.old)) }
+    ensures output { OnOk result (out.new ≡ collapse_out table.now name.now (length out.old)) }
 {
-    octets::clear(out);
-    octets::refused(number)
+    let held = plan::inside::enter(table, name)?;
+    if out.len() % RECORD != 0 {
+        return Err(Refused::from(Refusal::Output));
+    }
+    let done = fold(table, held.as_slice(), out)?;
+    Ok(done)
 }
 
 // The same, for a table and an output in order and a name in standard form.
-fn fold(table: &[u8], name: &[u8], out: &mut [u8]) -> octets::Answer
+fn fold(table: &[u8], name: &[u8], out: &mut [u8]) -> Result<Done, Refusal>
     requires { InOrder table.now × (in_standard_form name.now ≡ true) × (length out.old % record_size ≡ 0) }
-    ensures answer { result ≡ collapse_answer table.now name.now (length out.old) }
-    ensures output { out.new ≡ collapse_out table.now name.now (length out.old) }
+    ensures answer { answered result ≡ collapse_answer table.now name.now (length out.old) }
+    ensures output { OnOk result (out.new ≡ collapse_out table.now name.now (length out.old)) }
 {
-    let seen = survey(table, name);
-    let shortest = seen.shortest;
-    let longest = seen.longest;
-    if shortest < longest {
-        return refuse(9, out);
+    if survey(table, name).is_crossed() {
+        return Err(Refusal::Reviving);
     }
-    let most = limit(out.len());
-    let n = put_all(table, name, most, out);
-    if most < n {
-        return refuse(7, out);
-    }
-    let end = n * plan::inside::RECORD;
-    octets::clear(&mut out[end..]);
-    octets::Answer {
-        number: 0,
+    let most = MAX_RECORDS.min(out.len() / RECORD);
+    let Some(n) = put_all(table, name, most, out) else {
+        return Err(Refusal::Room);
+    };
+    octets::clear(&mut out[n * RECORD..]);
+    Ok(Done {
         count: n as u32,
         work: 0,
-    }
-}
-
-// The most records that a collapse may write: the room of the output, and what a table may have.
-fn limit(size: usize) -> usize
-    ensures { result ≡ min (size / record_size) max_records }
-{
-    let room = size / plan::inside::RECORD;
-    if MAX_RECORDS < room {
-        return MAX_RECORDS;
-    }
-    room
+    })
 }
 
 // Whether a record is an unfinished A6 record of a name.
-fn is_unfinished(row: &[u8], name: &[u8]) -> bool
-    requires { Fit row.now × (in_standard_form name.now ≡ true) }
+#[tactic(auto, unfolding(crate::specs::Fold::unfinished))]
+fn is_unfinished(row: &[u8; RECORD], name: &[u8]) -> bool
+    requires { Good row.now × (in_standard_form name.now ≡ true) }
     ensures { result ≡ unfinished name.now row.now }
 {
     is_named(row, plan::inside::owner_slot(row), name)
 }
 
 // Whether a record is an A6 record whose target is a name.
-fn is_referrer(row: &[u8], name: &[u8]) -> bool
-    requires { Fit row.now × (in_standard_form name.now ≡ true) }
+#[tactic(auto, unfolding(crate::specs::Fold::refers))]
+fn is_referrer(row: &[u8; RECORD], name: &[u8]) -> bool
+    requires { Good row.now × (in_standard_form name.now ≡ true) }
     ensures { result ≡ refers name.now row.now }
 {
     is_named(row, plan::inside::target_slot(row), name)
 }
 
 // Whether a record is an A6 record with a target, and the name in a slot of it is this one.
-fn is_named(row: &[u8], slot: &[u8], name: &[u8]) -> bool
-    requires row_len { (length row.now ≡ record_size) × (length slot.now ≡ slot_size) }
-    requires slot_value { (leads row.now ≡ true → in_standard_form (name_in slot.now) ≡ true) × (in_standard_form name.now ≡ true) }
+fn is_named(row: &[u8; RECORD], slot: &[u8; SLOT], name: &[u8]) -> bool
+    requires { (leads row.now ≡ true → in_standard_form (name_in slot.now) ≡ true) × (in_standard_form name.now ≡ true) }
     ensures { result ≡ (leads row.now && same_name (name_in slot.now) name.now) }
 {
-    if plan::inside::kind_of(row) != plan::inside::A6 {
-        return false;
-    }
-    if plan::inside::prefix_of(row) == 0 {
-        return false;
-    }
-    names::inside::equal(plan::inside::name_in(slot), name)
+    plan::inside::is_a6(row)
+        && 0 < plan::inside::prefix_of(row)
+        && names::inside::equal(plan::inside::name_in(slot), name)
 }
 
 // Whether q is an A6 record that the target of the unfinished record r owns, no longer than r.
-fn is_next(r: &[u8], q: &[u8]) -> bool
-    requires { Fit r.now × Fit q.now × (0 < prefix_of r.now) }
+#[tactic(auto, unfolding(crate::specs::Fold::continues))]
+fn is_next(r: &[u8; RECORD], q: &[u8; RECORD]) -> bool
+    requires { Good r.now × Good q.now × (0 < prefix_of r.now) }
     ensures { result ≡ continues r.now q.now }
 {
-    if plan::inside::kind_of(q) != plan::inside::A6 {
-        return false;
-    }
-    if plan::inside::prefix_of(r) < plan::inside::prefix_of(q) {
-        return false;
-    }
-    names::inside::equal(
-        plan::inside::name_in(plan::inside::owner_slot(q)),
-        plan::inside::name_in(plan::inside::target_slot(r)),
-    )
+    plan::inside::is_a6(q)
+        && plan::inside::prefix_of(q) <= plan::inside::prefix_of(r)
+        && names::inside::equal(
+            plan::inside::name_in(plan::inside::owner_slot(q)),
+            plan::inside::name_in(plan::inside::target_slot(r)),
+        )
 }
 
-// The lesser and the greater of two prefix lengths, where the second counts; else the first.
-fn lesser(best: u8, prefix: u8, counts: bool) -> u8
-    ensures { result ≡ pick counts (min best prefix) best }
-{
-    if !counts {
-        return best;
-    }
-    if prefix < best {
-        return prefix;
-    }
-    best
+// The prefix lengths of the shortest record that refers to a name, and of the longest unfinished record of it.
+#[derive(Clone, Copy)]
+pub struct Span {
+    pub shortest: Option<u8>,
+    pub longest: Option<u8>,
 }
 
-fn greater(best: u8, prefix: u8, counts: bool) -> u8
-    ensures { result ≡ pick counts (max best prefix) best }
+impl Span {
+    // Whether some record that refers to the name is shorter than an unfinished one of it.
+    fn is_crossed(self) -> bool
+        ensures { result ≡ crossed self }
+    {
+        match (self.shortest, self.longest) {
+            (Some(shortest), Some(longest)) => shortest < longest,
+            _ => false,
+        }
+    }
+}
+
+// The lesser and the greater of two prefix lengths; the second, where there is no first.
+fn lesser(best: Option<u8>, prefix: u8) -> u8
+    ensures { result ≡ lesser_of best prefix }
 {
-    if !counts {
-        return best;
-    }
-    if best < prefix {
-        return prefix;
-    }
-    best
+    best.map_or(prefix, |best| best.min(prefix))
+}
+
+fn greater(best: Option<u8>, prefix: u8) -> u8
+    ensures { result ≡ greater_of best prefix }
+{
+    best.map_or(prefix, |best| best.max(prefix))
 }
 
 // The span of a name over the whole table.
@@ -177,69 +149,76 @@ fn survey(table: &[u8], name: &[u8]) -> Span
     requires { InOrder table.now × (in_standard_form name.now ≡ true) }
     ensures { result ≡ span_of name.now table.now (count_of table.now) }
 {
-    let n = plan::inside::count(table);
-    let mut shortest: u8 = 255;
-    let mut longest: u8 = 0;
-    let mut i: usize = 0;
-    while i < n {
+    let mut shortest = None;
+    let mut longest = None;
+    for i in 0..plan::inside::count(table) {
         let row = plan::inside::row(table, i);
         let prefix = plan::inside::prefix_of(row);
-        shortest = lesser(shortest, prefix, is_referrer(row, name));
-        longest = greater(longest, prefix, is_unfinished(row, name));
-        i += 1;
+        if is_referrer(row, name) {
+            shortest = Some(lesser(shortest, prefix));
+        }
+        if is_unfinished(row, name) {
+            longest = Some(greater(longest, prefix));
+        }
     }
     Span { shortest, longest }
 }
 
-// The rule's records, as many as the output has room for; how many there are, or some number over the limit where they pass it.
-fn put_all(table: &[u8], name: &[u8], most: usize, out: &mut [u8]) -> usize
-    requires { InOrder table.now × (in_standard_form name.now ≡ true) × (most ≤ max_records) }
-    ensures { Put name.now table.now most out.old out.new result }
-{
-    let count = plan::inside::count(table);
-    let mut heads = [1024u16; 256];
-    let mut next = [1024u16; 1024];
-    link_all(table, &mut heads, &mut next);
-    let mut n: usize = 0;
-    let mut i: usize = 0;
-    while i < count {
-        if most < n {
-            return n;
+// The records of a table by the bucket of their owner, in table order: the first of each bucket, and after each record the next of its bucket.
+#[derive(Drop)]
+struct Buckets {
+    first: [Option<u16>; BUCKETS],
+    next: [Option<u16>; MAX_RECORDS],
+}
+
+impl Buckets {
+    fn new(table: &[u8]) -> Buckets
+        requires { InOrder table.now }
+        ensures { Linked table.now result.first result.next 0 }
+    {
+        let mut buckets = Buckets {
+            first: [None; BUCKETS],
+            next: [None; MAX_RECORDS],
+        };
+        for i in (0..plan::inside::count(table)).rev() {
+            buckets.link(table, i);
         }
-        n = put_place(table, name, i, &heads, &next, out, n);
-        i += 1;
+        buckets
     }
-    n
-}
 
-// The records by the bucket of their owner, in table order: the first of each bucket, and after each record the next of its bucket; 1,024 for none.
-fn link_all(table: &[u8], heads: &mut [u16], next: &mut [u16])
-    requires { InOrder table.now × Linked table.now heads.old next.old (count_of table.now) }
-    ensures { Linked table.now heads.new next.new 0 }
-{
-    let mut i = plan::inside::count(table);
-    while 0 < i {
-        i -= 1;
-        link(table, i, heads, next);
+    // The record i in front of those of its bucket that come after it.
+    fn link(&mut self, table: &[u8], i: usize)
+        requires { (i < count_of table.now) × (count_of table.now ≤ max_records) × Linked table.now self.old.first self.old.next (i + 1) }
+        ensures { Linked table.now self.new.first self.new.next i }
+    {
+        let b = bucket(plan::inside::owner_slot(plan::inside::row(table, i)));
+        self.next[i] = self.first[b];
+        self.first[b] = Some(i as u16);
     }
 }
 
-// The record i in front of those of its bucket that come after it.
-fn link(table: &[u8], i: usize, heads: &mut [u16], next: &mut [u16])
-    requires { (i < count_of table.now) × (count_of table.now ≤ max_records) × Linked table.now heads.old next.old (i + 1) }
-    ensures { Linked table.now heads.new next.new i }
-{
-    let b = bucket(plan::inside::owner_slot(plan::inside::row(table, i)));
-    next[i] = heads[b];
-    heads[b] = i as u16;
-}
-
-// The bucket of a slot, one of 256: slots of the same name share it.
-fn bucket(slot: &[u8]) -> usize
-    requires { length slot.now ≡ slot_size }
+// The bucket of a slot: slots of the same name share it.
+#[tactic(auto, unfolding(crate::specs::Running::bucket_of))]
+fn bucket(slot: &[u8; SLOT]) -> usize
     ensures { (result ≡ bucket_of slot.now) × (result < 256) }
 {
-    plan::inside::mark(slot) as usize % 256
+    usize::from(plan::inside::mark(slot)) % BUCKETS
+}
+
+// The rule's records, which go into the output as far as it has room; how many there are, or none where they are more than `most`.
+fn put_all(table: &[u8], name: &[u8], most: usize, out: &mut [u8]) -> Option<usize>
+    requires { InOrder table.now × (in_standard_form name.now ≡ true) × (most ≤ max_records) }
+    ensures { MatchOption result (most < length (fold_of name.now table.now)) (λ n. (n ≤ most) × (n ≡ length (fold_of name.now table.now)) × (out.new ≡ stored out.old 0 (fold_of name.now table.now))) }
+{
+    let buckets = Buckets::new(table);
+    let mut n = 0;
+    for i in 0..plan::inside::count(table) {
+        n = put_place(table, name, i, &buckets, out, n);
+        if most < n {
+            return None;
+        }
+    }
+    Some(n)
 }
 
 // What stands in the place of the record i, from record n of the output on; where the next record goes.
@@ -247,103 +226,80 @@ fn put_place(
     table: &[u8],
     name: &[u8],
     i: usize,
-    heads: &[u16],
-    next: &[u16],
+    buckets: &Buckets,
     out: &mut [u8],
     n: usize,
 ) -> usize
-    requires in_order { InOrder table.now × (in_standard_form name.now ≡ true) × Linked table.now heads.now next.now 0 }
+    requires in_order { InOrder table.now × (in_standard_form name.now ≡ true) × Linked table.now buckets.now.first buckets.now.next 0 }
     requires i_bound { (i < count_of table.now) × (n ≤ max_records) }
     ensures value { result ≡ n + length (place_of name.now table.now i) }
     ensures out_after { out.new ≡ stored out.old n (place_of name.now table.now i) }
 {
     let row = plan::inside::row(table, i);
     if is_unfinished(row, name) {
-        return put_each(table, i, heads, next, out, n);
+        return put_each(table, row, buckets, out, n);
     }
     put(row, out, n);
     n + 1
 }
 
-// The records that the unfinished record i makes, from record n of the output on; where the next record goes.
-fn put_each(table: &[u8], i: usize, heads: &[u16], next: &[u16], out: &mut [u8], n: usize) -> usize
-    requires { InOrder table.now × (i < count_of table.now) × (0 < prefix_at table.now i) × (n ≤ max_records) × Linked table.now heads.now next.now 0 }
-    ensures value { result ≡ n + length (up_to (count_of table.now) (made_of table.now (record_at table.now i))) }
-    ensures out_after { out.new ≡ stored out.old n (up_to (count_of table.now) (made_of table.now (record_at table.now i))) }
+// The records that the unfinished record r makes, from record n of the output on; where the next record goes.
+fn put_each(table: &[u8], r: &[u8; RECORD], buckets: &Buckets, out: &mut [u8], n: usize) -> usize
+    requires { InOrder table.now × Good r.now × (0 < prefix_of r.now) × (n ≤ max_records) × Linked table.now buckets.now.first buckets.now.next 0 }
+    ensures value { result ≡ n + length (up_to (count_of table.now) (made_of table.now r.now)) }
+    ensures out_after { out.new ≡ stored out.old n (up_to (count_of table.now) (made_of table.now r.now)) }
 {
-    let count = plan::inside::count(table);
-    let b = bucket(plan::inside::target_slot(plan::inside::row(table, i)));
     let mut m = n;
-    let mut j = heads[b] as usize;
-    while j < count {
-        m = put_made(table, i, j, out, m);
-        j = next[j] as usize;
+    let mut next = buckets.first[bucket(plan::inside::target_slot(r))];
+    while let Some(j) = next {
+        let j = usize::from(j);
+        m = put_made(r, plan::inside::row(table, j), out, m);
+        next = buckets.next[j];
     }
     m
 }
 
-// What the unfinished record i makes with the record j, if anything, as record n of the output; where the next record goes.
-fn put_made(table: &[u8], i: usize, j: usize, out: &mut [u8], n: usize) -> usize
-    requires { InOrder table.now × (i < count_of table.now) × (0 < prefix_at table.now i) × (n ≤ max_records * 2) × (j < count_of table.now) }
-    ensures value { result ≡ n + length (made_of table.now (record_at table.now i) j) }
-    ensures out_after { out.new ≡ stored out.old n (made_of table.now (record_at table.now i) j) }
+// What the unfinished record r makes with the record q, if anything, as record n of the output; where the next record goes.
+fn put_made(r: &[u8; RECORD], q: &[u8; RECORD], out: &mut [u8], n: usize) -> usize
+    requires { Good r.now × Good q.now × (0 < prefix_of r.now) × (n ≤ max_records * 2) }
+    ensures value { result ≡ n + length (made_by r.now q.now) }
+    ensures out_after { out.new ≡ stored out.old n (made_by r.now q.now) }
 {
-    if !is_next(plan::inside::row(table, i), plan::inside::row(table, j)) {
+    if !is_next(r, q) {
         return n;
     }
-    put_joined(table, i, j, out, n);
+    put_joined(r, q, out, n);
     n + 1
 }
 
 // A record as record n of the output, if there is room for it.
-fn put(row: &[u8], out: &mut [u8], n: usize)
-    requires { (length row.now ≡ record_size) × (n ≤ max_records * 2) }
+fn put(row: &[u8; RECORD], out: &mut [u8], n: usize)
+    requires { n ≤ max_records * 2 }
     ensures { out.new ≡ stored_one out.old n row.now }
 {
-    if n < out.len() / plan::inside::RECORD {
-        octets::inside::copy(row, 0, plan::inside::RECORD, out, n * plan::inside::RECORD);
+    if n < out.len() / RECORD {
+        out[n * RECORD..(n + 1) * RECORD].copy_from_slice(row);
     }
 }
 
-// The record that the records i and j make as record n of the output, if there is room for it.
-fn put_joined(table: &[u8], i: usize, j: usize, out: &mut [u8], n: usize)
-    requires { (i < count_of table.now) × (j < count_of table.now) × (n ≤ max_records * 2) }
-    ensures { out.new ≡ stored_one out.old n (joined_of (record_at table.now i) (record_at table.now j)) }
+// The record that the records r and q make as record n of the output, if there is room for it: the bits of q up to the length of r and those of r
+// after it, and the smaller TTL.
+fn put_joined(r: &[u8; RECORD], q: &[u8; RECORD], out: &mut [u8], n: usize)
+    requires { n ≤ max_records * 2 }
+    ensures { out.new ≡ stored_one out.old n (joined_of r.now q.now) }
 {
-    if n < out.len() / plan::inside::RECORD {
-        let address = joined_address(table, i, j);
-        let ttl = joined_ttl(table, i, j);
-        let owner = plan::inside::owner_slot(plan::inside::row(table, i));
-        let target = plan::inside::target_slot(plan::inside::row(table, j));
+    if n < out.len() / RECORD {
+        let high = *plan::inside::address_of(q);
+        let low = *plan::inside::address_of(r);
         plan::inside::write_record(
-            plan::inside::A6,
-            plan::inside::prefix(table, j),
-            address,
-            owner,
-            target,
-            ttl,
+            Kind::A6,
+            plan::inside::prefix_of(q),
+            address::join(high, low, plan::inside::prefix_of(r)),
+            plan::inside::owner_slot(r),
+            plan::inside::target_slot(q),
+            plan::inside::ttl_of(r).min(plan::inside::ttl_of(q)),
             out,
-            n * plan::inside::RECORD,
+            n * RECORD,
         );
     }
-}
-
-// The bits of the record j up to the length of the record i, and those of i after it.
-fn joined_address(table: &[u8], i: usize, j: usize) -> [u8; 16]
-    requires { (i < count_of table.now) × (j < count_of table.now) }
-    ensures { result ≡ join_of (address_at table.now j) (address_at table.now i) (prefix_at table.now i) }
-{
-    let high = plan::inside::address(table, j);
-    let low = plan::inside::address(table, i);
-    address::join(high, low, plan::inside::prefix(table, i))
-}
-
-// The smaller TTL of the records i and j.
-fn joined_ttl(table: &[u8], i: usize, j: usize) -> u32
-    requires { (i < count_of table.now) × (j < count_of table.now) }
-    ensures { result ≡ min (ttl_at table.now i) (ttl_at table.now j) }
-{
-    let own = plan::inside::ttl(table, i);
-    let next = plan::inside::ttl(table, j);
-    octets::numbers::lesser(own, next)
 }

@@ -1,21 +1,13 @@
 -- `collapse::is_referrer` meets its contract: the target is in its slot.
-use mathlib.Core.Bool.{◌&&◌}
+use mathlib.Core.Path.{ap, ◌∙◌}
 use mathlib.Core.List.{List}
-use mathlib.Core.Path.{sym, ap, ◌∙◌}
 use Prim.Native.Nat.{ℕ}
-use Rattle.names.specs.Standard.{same_name, in_standard_form}
+use Rattle.names.specs.Standard.{in_standard_form}
 use Rattle.plan.specs.Layout.{name_in}
 use Rattle.plan.proofs.FaultLaws.{targetless_on}
-use Rattle.collapse.specs.Fold.{leads}
-use Rattle.collapse.proofs.RunningLaws.{refers_leads, leads_some}
+use Rattle.collapse.proofs.RunningLaws.{leads_some}
 use Rattle.collapse.proofs.is_referrer.Goals as goal
 
 pub is_named-requires : goal.is_named-requires
 is_named-requires c =
-    let w = c.requires in
-    let e = c.target_slot.ensures in record { row_len = (w.0.whole, e.1); slot_value = (λ l. ap (λ (s : List ℕ). in_standard_form (name_in s)) e.0 ∙ (w.0.good.target (targetless_on _ (leads_some _ l))).name, w.1) }
-
-pub returns : goal.returns
-returns c =
-    let a = c.args in
-    c.is_named.ensures ∙ ap (λ (s : List ℕ). leads a.row.now && same_name (name_in s) a.name.now) c.target_slot.ensures.0 ∙ sym (refers_leads a.name.now a.row.now)
+    (λ l. ap (λ (s : List ℕ). in_standard_form (name_in s)) c.target_slot.ensures ∙ (c.requires.0.target (targetless_on _ (leads_some _ l))).name, c.requires.1)

@@ -1,146 +1,77 @@
-use mathlib.Core.Path.{◌≡◌, refl, sym, ap, ◌∙◌}
-use native.Mathlib.Omega.{arith}
-use Prim.Native.Nat.{ℕ, ◌+◌, ◌≤◌, ◌<◌, min}
+use Rattle.std.specs.Prelude.{Some}
+use Prim.Native.Nat.{ℕ, ◌+◌, ◌≤◌}
+use mathlib.Core.Path.{◌≡◌, sym, ap, subst, ◌∙◌}
 use mathlib.Core.List.{List}
+use native.Mathlib.Omega.{arith}
 use lib.ListN.{length, get_or}
-use Rattle.chains.specs.Lists.{up_to}
-use Rattle.plan.specs.Layout.{max_records, target_slot, count_of, record_at}
-use Rattle.plan.proofs.OrderLaws.{order_count}
-use Rattle.collapse.specs.Fold.{made_of}
-use Rattle.collapse.specs.Running.{bucket_of, first_in, stored}
-use Rattle.collapse.proofs.LinkLaws.{Walked, walked}
-use Rattle.collapse.proofs.RunningLaws.{few_turns, made_few, count_start, stored_start, count_turn, stored_turn}
-use Rattle.collapse.proofs.put_each.Goals.{After-bucket-b, After-shared_slice_known-4-1, After-shared_slice_known-in-loop-j-1, Start}
+use Rattle.std.specs.Prelude.{None}
+use Rattle.plan.specs.Layout.{max_records, count_of, record_at}
+use Rattle.plan.proofs.OrderLaws.{order_count, order_good}
+use Rattle.collapse.specs.Running.{bucket_of, first_in, within, made_by, stored}
+use Rattle.collapse.proofs.LinkLaws.{reach, Walked, walked}
+use Rattle.collapse.proofs.RunningLaws.{made_is}
+use Rattle.collapse.proofs.WalkLaws.{Walking, walking_start, walking_few, walking_on, walking_end}
+use Rattle.collapse.proofs.put_each.Goals.{After-bucket, After-from-j}
 use Rattle.collapse.proofs.put_each.Goals as goal
 
--- the table, the record whose target is walked, and what a record makes with it
-abbrev table : Start → List ℕ
-table c = c.args.table.now
-
-abbrev row : Start → List ℕ
-row c = record_at (table c) c.args.i
-
-abbrev made : Start → ℕ → List (List ℕ)
-made c = made_of (table c) (row c)
-
-few : (c : Start) → count_of (table c) ≤ max_records
-few c = order_count (table c) c.requires.0
-
-abbrev start_of_bucket_b : After-bucket-b → Start
-start_of_bucket_b c = c.before.before.before.before.before.before.before.before.before
-
-bucket_is : (c : After-bucket-b) → c.bucket-b.result ≡ bucket_of (target_slot (row (start_of_bucket_b c)))
-bucket_is c = c.bucket-b.ensures.0 ∙ ap bucket_of (c.target_slot.ensures.0 ∙ ap target_slot c.row.ensures.0)
-
--- where the first turn starts, and where the next one does
-abbrev first : After-shared_slice_known-4-1 → ℕ
-first c = get_or c.args.heads.now c.bucket-b.result 0
-
-abbrev start_of_shared_slice_known_4_1 : After-shared_slice_known-4-1 → Start
-start_of_shared_slice_known_4_1 c = c.before.before.before.before.before.before.before.before.before.before
-
-abbrev bucket_b : After-shared_slice_known-4-1 → After-bucket-b
-bucket_b c = record { before = c.before.before; type_inv = record { out = c.slice_known-1.given; next = c.shared_slice_known-3-1.given; heads = c.shared_slice_known-2-1.given; table = c.shared_slice_known-1.given } }
-
-start : (c : After-shared_slice_known-4-1) → Walked (table (start_of_shared_slice_known_4_1 c)) c.args.i 0 (first c)
+-- where the walk starts
+start : (c : After-bucket) → Walked c.args.table.now c.args.r.now 0 (get_or c.args.buckets.now.first c.bucket.result None)
 start c =
-    let k = c.bucket-b in
-    let h : first c ≡ first_in (table (start_of_shared_slice_known_4_1 c)) (bucket_of (target_slot (row (start_of_shared_slice_known_4_1 c)))) 0 = c.requires.4.head k.result k.ensures.1
-    ∙ ap (λ (b : ℕ). first_in (table (start_of_shared_slice_known_4_1 c)) b 0) (bucket_is (bucket_b c)) in
-    walked (table (start_of_shared_slice_known_4_1 c)) c.requires.0 c.args.i c.requires.1 c.requires.2 0 (first c) (omega arith) (few (start_of_shared_slice_known_4_1 c)) h
+    let t = c.args.table.now in
+    let w = c.requires in
+    let e = c.bucket.ensures.0 ∙ ap bucket_of c.target_slot.ensures in
+    walked t w.0 c.args.r.now w.1 w.2 0 _ (omega arith) (order_count t w.0) (w.4.head c.bucket.result c.bucket.ensures.1 ∙ ap (λ (b : ℕ). within (first_in t b 0)) e)
 
-abbrev start_of_shared_slice_known_in_loop_j_1 : After-shared_slice_known-in-loop-j-1 → Start
-start_of_shared_slice_known_in_loop_j_1 c = c.before.before.before.before.before.before.before.before.before.before.before.before.before.before.before.before.before
+-- at the record j, and on to the next one
+here : (c : After-from-j) → Walking c.args.table.now c.args.r.now c.args.out.now c.loop-next.out c.args.n c.loop-next.m (Some c.from-j.result)
+here c = subst (Walking c.args.table.now c.args.r.now c.args.out.now c.loop-next.out c.args.n c.loop-next.m) (c.in-Some.is ∙ ap Some (sym c.from-j.ensures)) c.loop-next.invariant
 
-within : (c : After-shared_slice_known-in-loop-j-1) → c.loop-j.j < count_of (table (start_of_shared_slice_known_in_loop_j_1 c))
-within c = omega (arith, c.loop-j.invariant.0)
-
-abbrev following : After-shared_slice_known-in-loop-j-1 → ℕ
-following c = get_or c.args.next.now c.loop-j.j 0
-
-step : (c : After-shared_slice_known-in-loop-j-1) → Walked (table (start_of_shared_slice_known_in_loop_j_1 c)) c.args.i (c.loop-j.j + 1) (following c)
+step : (c : After-from-j) → Walked c.args.table.now c.args.r.now (c.from-j.result + 1) (get_or c.args.buckets.now.next c.from-j.result None)
 step c =
-    let l = c.loop-j in
-    let e : following c ≡ first_in (table (start_of_shared_slice_known_in_loop_j_1 c)) (bucket_of (target_slot (row (start_of_shared_slice_known_in_loop_j_1 c)))) (l.j + 1) = c.requires.4.after l.j (omega arith) (within c)
-    ∙ ap (λ (b : ℕ). first_in (table (start_of_shared_slice_known_in_loop_j_1 c)) b (l.j + 1)) (l.invariant.3 (within c)) in
-    walked (table (start_of_shared_slice_known_in_loop_j_1 c)) c.requires.0 c.args.i c.requires.1 c.requires.2 (l.j + 1) (following c) (omega (arith, within c)) (few (start_of_shared_slice_known_in_loop_j_1 c)) e
+    let t = c.args.table.now in
+    let w = c.requires in
+    let j = c.from-j.result in
+    let f = (here c).found in
+    walked t w.0 c.args.r.now w.1 w.2 (j + 1) _ (omega (arith, f.0)) (order_count t w.0) (w.4.after j (omega arith) f.0 ∙ ap (λ (b : ℕ). within (first_in t b (j + 1))) f.1)
+
+pub loop-next-init : goal.loop-next-init
+loop-next-init c = walking_start c.args.table.now c.args.r.now c.args.out.now c.args.n _ (start (goal.at.loop-next-init c).After-bucket)
 
 pub row-requires : goal.row-requires
-row-requires c = c.requires.1
-
-pub target_slot-requires : goal.target_slot-requires
-target_slot-requires c = c.row.ensures.1
-
-pub bucket-b-requires : goal.bucket-b-requires
-bucket-b-requires c = c.target_slot.ensures.1
-
-pub offset_bounds-heads-b : goal.offset_bounds-heads-b
-offset_bounds-heads-b c = omega (arith, c.bucket-b.ensures.1)
-
-pub bounds-heads-b : goal.bounds-heads-b
-bounds-heads-b c = omega (arith, c.bucket-b.ensures.1, c.requires.4.buckets)
-
-pub overflow_cast-j : goal.overflow_cast-j
-overflow_cast-j c = omega (arith, (start c).within)
-
-pub loop-j-init : goal.loop-j-init
-loop-j-init c =
-    let bucket_b = (goal.at.loop-j-init c).After-bucket-b in
-    let at_start = (goal.at.loop-j-init c).Start in
-    let a = c.args in
-    let k = start c in (
-      c.count-count.ensures,
-      bucket_is bucket_b,
-      k.within,
-      k.bucket,
-      count_start (made at_start) a.n ∙ sym (ap (λ (l : List (List ℕ)). a.n + length l) k.same),
-      stored_start (made at_start) a.out.now a.n ∙ sym (ap (stored a.out.now a.n) k.same),
-      refl,
-    )
+row-requires c = (here c).found.0
 
 pub put_made-m-requires : goal.put_made-m-requires
 put_made-m-requires c =
-    let here = (goal.at.put_made-m-requires c).Start in
-    let l = c.loop-j in
-    let w = c.requires in
-    let f = few_turns (made here) 1 (min l.j (count_of (table here))) (λ k h. made_few (table here) (row here) k) in
-    (w.0, w.1, w.2, omega (arith, few here, l.invariant.4, w.3), omega (arith, l.invariant.0))
+    let t = c.args.table.now in
+    let k = here (goal.at.put_made-m-requires c).After-from-j in
+    let n : count_of t ≤ max_records = order_count t c.requires.0 in
+    (c.requires.1, rw c.row.ensures (order_good t c.requires.0 c.from-j.result k.found.0), c.requires.2, omega (arith, walking_few t c.args.r.now c.args.out.now c.args.n k, c.requires.3))
 
-pub offset_bounds-next-j : goal.offset_bounds-next-j
-offset_bounds-next-j c = omega (arith, c.loop-j.invariant.2)
+pub bounds-buckets-j : goal.bounds-buckets-j
+bounds-buckets-j c = omega (arith, (here (goal.at.bounds-buckets-j c).After-from-j).found.0, order_count c.args.table.now c.requires.0)
 
-pub bounds-next-j : goal.bounds-next-j
-bounds-next-j c = omega (arith, c.loop-j.invariant.0, few (goal.at.bounds-next-j c).Start, c.requires.4.records)
+pub loop-next-smaller : goal.loop-next-smaller
+loop-next-smaller c =
+    let at = (goal.at.loop-next-smaller c).After-from-j in
+    let e : reach c.loop-next.next ≡ c.from-j.result = ap reach (c.in-Some.is ∙ ap Some (sym c.from-j.ensures)) in
+    omega (arith, (step at).from, (here at).found.0)
 
-pub overflow_cast-j-in-loop-j : goal.overflow_cast-j-in-loop-j
-overflow_cast-j-in-loop-j c = omega (arith, (step c).within)
-
-pub loop-j-smaller : goal.loop-j-smaller
-loop-j-smaller c = omega (arith, (step c).from, c.loop-j.invariant.0)
-
-pub loop-j-preserved : goal.loop-j-preserved
-loop-j-preserved c =
-    let here = (goal.at.loop-j-preserved c).Start in
-    let l = c.loop-j in
+pub loop-next-preserved : goal.loop-next-preserved
+loop-next-preserved c =
     let a = c.args in
-    let f = made here in
-    let k = step c in
-    let p = c.put_made-m in
-    let e : min l.j (count_of (table here)) ≡ l.j = omega (arith, l.invariant.0) in
-    let m : l.m ≡ a.n + length (up_to l.j f) = l.invariant.4 ∙ ap (λ (v : ℕ). a.n + length (up_to v f)) e in
-    let u : l.out ≡ stored a.out.now a.n (up_to l.j f) = l.invariant.5 ∙ ap (λ (v : ℕ). stored a.out.now a.n (up_to v f)) e in (
-      l.invariant.0,
-      l.invariant.1,
-      k.within,
-      k.bucket,
-      p.ensures.value ∙ count_turn f a.n l.m l.j m ∙ sym (ap (λ (v : List (List ℕ)). a.n + length v) k.same),
-      p.ensures.out_after ∙ stored_turn f a.out.now l.out a.n l.m l.j u m ∙ sym (ap (stored a.out.now a.n) k.same),
-      omega (arith, l.invariant.6),
-    )
+    let t = a.table.now in
+    let r = a.r.now in
+    let j = c.from-j.result in
+    let m = c.loop-next.m in
+    let at = (goal.at.loop-next-preserved c).After-from-j in
+    let e : made_by r c.row.result.now ≡ made_by r (record_at t j) = ap (made_by r) c.row.ensures in
+    walking_on t r a.out.now a.n j (here at) c.put_made-m.new.out c.put_made-m.result _ (step at)
+    (c.put_made-m.ensures.value ∙ ap (λ (l : List (List ℕ)). m + length l) (e ∙ made_is t r j))
+    (c.put_made-m.ensures.out_after ∙ ap (stored c.loop-next.out m) (e ∙ made_is t r j))
 
 pub returns : goal.returns
 returns c =
-    let here = (goal.at.returns c).Start in
-    let l = c.loop-j in
-    let e : min l.j (count_of (table here)) ≡ count_of (table here) = omega (arith, l.invariant.0) in
-    record { value = rw (← e) l.invariant.4; out_after = rw (← e) l.invariant.5 }
+    let a = c.args in
+    let w = subst (Walking a.table.now a.r.now a.out.now c.loop-next.out a.n c.loop-next.m) c.in_default.is c.loop-next.invariant in
+    let y = walking_end a.table.now a.r.now a.out.now a.n w (order_count a.table.now c.requires.0) in
+    record { value = y.0; out_after = y.1 }

