@@ -236,7 +236,42 @@ pub fn fill_in(slot: &[u8; SLOT]) -> usize
     1 + usize::from(slot[0])
 }
 
-// A record of its fields, the names as slots, at a place of the output.
+// The fields of a record, the names as slots.
+#[derive(Clone, Copy)]
+pub struct Parts<'a> {
+    pub kind: Kind,
+    pub prefix: u8,
+    pub address: [u8; 16],
+    pub owner: &'a [u8; SLOT],
+    pub target: &'a [u8; SLOT],
+    pub ttl: u32,
+}
+
+impl Parts<'_> {
+    // The record, at a place of the output.
+    pub fn write(self, out: &mut [u8], to: usize)
+        requires { to + record_size ≤ length out.old }
+        ensures { out.new ≡ paste out.old to (record_of (kind_number self.entry.kind) self.entry.prefix self.entry.address self.entry.owner.now self.entry.target.now self.entry.ttl) record_size }
+    {
+        let Parts {
+            kind,
+            prefix,
+            address,
+            owner,
+            target,
+            ttl,
+        } = self;
+        let [high, low] = (kind as u16).to_be_bytes();
+        let life = octets::numbers::quarter_octets(ttl);
+        octets::inside::copy(&[high, low, prefix, 0], 0, 4, out, to);
+        octets::inside::copy(&address, 0, 16, out, to + ADDRESS);
+        octets::inside::copy(owner, 0, SLOT, out, to + OWNER);
+        octets::inside::copy(target, 0, SLOT, out, to + TARGET);
+        octets::inside::copy(&life, 0, 4, out, to + TTL);
+    }
+}
+
+// The same of loose parts.
 pub fn write_record(
     kind: Kind,
     prefix: u8,
@@ -250,14 +285,15 @@ pub fn write_record(
     requires { to + record_size ≤ length out.old }
     ensures { out.new ≡ paste out.old to (record_of (kind_number kind) prefix address owner.now target.now ttl) record_size }
 {
-    let [high, low] = (kind as u16).to_be_bytes();
-    let head = [high, low, prefix, 0];
-    octets::inside::copy(&head, 0, 4, out, to);
-    octets::inside::copy(&address, 0, 16, out, to + ADDRESS);
-    octets::inside::copy(owner, 0, 256, out, to + OWNER);
-    octets::inside::copy(target, 0, 256, out, to + TARGET);
-    let life = octets::numbers::quarter_octets(ttl);
-    octets::inside::copy(&life, 0, 4, out, to + TTL);
+    let parts = Parts {
+        kind,
+        prefix,
+        address,
+        owner,
+        target,
+        ttl,
+    };
+    parts.write(out, to);
 }
 
 // The slot of a name.
@@ -289,12 +325,24 @@ pub fn write_fields(fields: Fields, out: &mut [u8], to: usize)
     requires { to + record_size ≤ length out.old }
     ensures { out.new ≡ paste out.old to (a6_record fields) record_size }
 {
-    let prefix = fields.prefix;
-    let address = fields.address;
-    let owner = slot_for(fields.owner);
-    let target = slot_for(fields.target);
-    let ttl = fields.ttl;
-    write_record(Kind::A6, prefix, address, &owner, &target, ttl, out, to);
+    let Fields {
+        prefix,
+        address,
+        owner,
+        target,
+        ttl,
+    } = fields;
+    let owner = slot_for(owner);
+    let target = slot_for(target);
+    let parts = Parts {
+        kind: Kind::A6,
+        prefix,
+        address,
+        owner: &owner,
+        target: &target,
+        ttl,
+    };
+    parts.write(out, to);
 }
 
 // The name that a slot holds, by value.

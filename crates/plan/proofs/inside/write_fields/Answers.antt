@@ -11,5 +11,5 @@ returns c =
     let a = c.args in
     let owner = c.slot_for-owner.ensures in
     let target = c.slot_for-target.ensures in
-    c.write_record.ensures
+    c.write.ensures
     ∙ λ i. paste a.out.now a.to (record_of a6 a.fields.prefix a.fields.address (owner i) (target i) a.fields.ttl) record_size
