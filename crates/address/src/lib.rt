@@ -24,6 +24,7 @@ pub fn join(high: [u8; 16], low: [u8; 16], at: u8) -> [u8; 16]
 }
 
 // How `a` stands to `b` in ascending order: by the first octets that differ.
+#[tactic(auto, using(crate::proofs::OrderLaws::order_cmp))]
 pub fn compare(a: &[u8], b: &[u8]) -> Ordering
     ensures { result ≡ order_of a.now b.now }
 {
@@ -48,7 +49,7 @@ fn mix(high: u8, low: u8, n: u8) -> u8
     ensures { result ≡ mix 8 n high low }
 {
     let rest = 255u8 >> n;
-    (high & (255 - rest)) | (low & rest)
+    (high & !rest) | (low & rest)
 }
 
 // Octet k of a join: the mixed one in its place, whole ones of `high` before it and of `low` after it.

@@ -22,6 +22,7 @@ pub fn scan(s: &[u8]) -> Result<Scanned, Refusal>
     let mut at: usize = 0;
     let mut run: usize = 0;
     let mut standard = true;
+    // From label to label, whose sizes differ: no iterator goes so.
     while at < s.len() {
         let step = label(s, at, run)?;
         if s[at] == 0 {

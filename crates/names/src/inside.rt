@@ -21,6 +21,7 @@ pub fn put_standard(name: &[u8], standard: bool, out: &mut [u8]) -> usize
 }
 
 // Whether two names in standard form are the same name.
+#[tactic(auto, using(crate::proofs::KeyLaws::same_keys_lem))]
 pub fn equal(a: &[u8], b: &[u8]) -> bool
     requires { (in_standard_form a.now ≡ true) × (in_standard_form b.now ≡ true) }
     ensures { result ≡ same_name a.now b.now }
@@ -53,6 +54,7 @@ fn respelt(a: &[u8], b: &[u8], i: usize) -> bool
 }
 
 // A letter from A to Z as the one from a to z; every other octet as it is.
+#[tactic(auto, using(crate::proofs::LowerLaws::lower_ascii))]
 fn lowered(x: u8) -> u8
     ensures { result ≡ lower x }
 {
@@ -84,6 +86,7 @@ fn past_letters(a: &[u8], b: &[u8], at: usize, end: usize) -> usize
     ensures { Past a.now b.now end at result }
 {
     let mut i = at;
+    // From label to label, whose sizes differ: no iterator goes so.
     while i < end && a[i] == b[i] && a[i] != 65 {
         i += 1 + usize::from(a[i]);
     }

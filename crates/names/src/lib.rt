@@ -16,7 +16,8 @@ use bits::inside::Packer;
 use labels::Scanned;
 use octets::{Done, Refusal};
 
-// A name by value: its octets with zeros after them, and its length; length 0 holds no name (01, A6 data).
+// A name by value: its octets with zeros after them, and its length; length 0 holds no name (01, A6 data). It takes fixed memory, and the C interface has it
+// in this form.
 #[derive(Clone, Copy)]
 pub struct Name {
     pub octets: [u8; 255],
@@ -25,6 +26,7 @@ pub struct Name {
 
 impl Name {
     // No name.
+    #[tactic(auto, unfolding(crate::specs::Name::name_of, octets::specs::Octets::blank))]
     pub fn none() -> Name
         ensures { result ≡ name_of [] }
     {
@@ -160,6 +162,7 @@ fn merge(name: &[u8], out: &mut [u8]) -> usize
 {
     let mut at: usize = 0;
     let mut to: usize = 0;
+    // From label to label, whose sizes differ: no iterator goes so.
     while name[at] != 0 {
         let place = next(name, at, to, out);
         at = place.at;
