@@ -463,7 +463,7 @@ fn whole_sum(slot: &[u8; SLOT], front: usize) -> usize
 
 // What a word adds to the sum.
 fn term(slot: &[u8; SLOT], k: usize) -> usize
-    requires { (k < 64) }
+    requires { k < 64 }
     ensures { (result ≡ term_at slot.now k) × (result < 2 ^ 52) }
 {
     masked(slot, k * 4) * (52361 + k * 7919)

@@ -16,9 +16,6 @@ returns-then-n-gt-MAX_RECORDS c =
     let n = c.count-n.ensures in
     judged_placeless t Length _ c.from-then-n-gt-MAX_RECORDS.ensures (number_many t c.if-table-ne0.false (omega arith)) (λ h. omega arith) (λ h. omega arith)
 
-pub first_fault-requires : goal.first_fault-requires
-first_fault-requires c = omega (arith, c.count-n.ensures, c.if-n-gt-MAX_RECORDS.false)
-
 pub returns-in-Some : goal.returns-in-Some
 returns-in-Some c =
     let t = c.args.table.now in
@@ -26,9 +23,6 @@ returns-in-Some c =
     let f = c.in-Some.ensures in
     let e = number_fault t c.if-table-ne0.false (omega (arith, n, c.if-n-gt-MAX_RECORDS.false)) f.1 in
     judged_placed t Record _ e (fault_two t e ∙ sym f.0)
-
-pub first_repeat-requires : goal.first_repeat-requires
-first_repeat-requires c = (c.in_default.ensures, omega (arith, c.count-n.ensures, c.if-n-gt-MAX_RECORDS.false))
 
 pub returns-in-Some-first_repeat : goal.returns-in-Some-first_repeat
 returns-in-Some-first_repeat c =

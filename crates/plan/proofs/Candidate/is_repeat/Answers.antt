@@ -9,9 +9,6 @@ returns-then-not-is_dname c =
     let a = c.args.self in
     sym (repeats_other a.table.now a.index (sym (c.is_dname.ensures ∙ ap is_dname c.row.ensures) ∙ c.if-not-is_dname.true))
 
-pub has_twin-requires : goal.has_twin-requires
-has_twin-requires c = sym (c.is_dname.ensures ∙ ap is_dname c.row.ensures) ∙ c.if-not-is_dname.false
-
 pub returns-then-has_mark : goal.returns-then-has_mark
 returns-then-has_mark c =
     let a = c.args.self in

@@ -24,20 +24,6 @@ returns-then-n-b c =
     let n : get_or a.b.now 0 0 < 256 = search rules in
     sym (slots_unlike a.a.now a.b.now k l m n c.requires.0 c.requires.1 c.if-n-b.true)
 
-pub slice_bounds-same_labels-end : goal.slice_bounds-same_labels-end
-slice_bounds-same_labels-end c = let l : length c.args.a.now ≡ slot_size = search rules in sym (piece c.pieces-k.result c.args.a.now l c.pieces-k.ensures.1)
-
-pub slice_bounds-same_labels-end-2 : goal.slice_bounds-same_labels-end-2
-slice_bounds-same_labels-end-2 c = let l : length c.args.b.now ≡ slot_size = search rules in sym (piece c.pieces-k.result c.args.b.now l c.pieces-k.ensures.1)
-
-pub same_labels-requires : goal.same_labels-requires
-same_labels-requires c =
-    let k : length c.args.a.now ≡ slot_size = search rules in
-    let l : length c.args.b.now ≡ slot_size = search rules in
-    let p = piece c.pieces-k.result c.args.a.now k c.pieces-k.ensures.1 in
-    let q = piece c.pieces-k.result c.args.b.now l c.pieces-k.ensures.1 in
-    (p ∙ sym q, omega (arith, p, c.from.ensures, c.pieces-k.ensures.0))
-
 pub returns : goal.returns
 returns c =
     let n = c.pieces-k.result in

@@ -1,8 +1,6 @@
 -- `plan::inside::slot_for` meets its contract: the length, then the octets.
-use Prim.Native.Nat.{◌≤◌}
 use mathlib.Core.Path.{◌≡◌, ◌∙◌}
 use lib.ListN.{length}
-use native.Mathlib.Omega.{arith}
 use borrow.Author.Rules.{rules}
 use Rattle.octets.specs.Octets.{blank}
 use Rattle.plan.specs.Layout.{name_room}
@@ -13,9 +11,6 @@ use Rattle.plan.proofs.inside.slot_for.Goals as goal
 
 long : (s : Start) → length s.args.name.octets ≡ name_room
 long s = search rules
-
-pub copy-requires : goal.copy-requires
-copy-requires c = let h : 255 ≤ length c.args.name.octets = omega (arith, long (goal.at.copy-requires c).Start) in (h, search rules)
 
 pub returns : goal.returns
 unfolding blank slot_for

@@ -4,9 +4,6 @@ use Rattle.plan.specs.Marks.{term_at}
 use Rattle.plan.proofs.MarkLaws.{term_fits}
 use Rattle.plan.proofs.inside.term.Goals as goal
 
-pub overflow_mul-result-2 : goal.overflow_mul-result-2
-overflow_mul-result-2 c = omega (arith, term_fits c.masked.result c.args.k (omega arith) (omega arith))
-
 pub returns : goal.returns
 unfolding term_at
 returns c = (rw c.masked.ensures.0, term_fits c.masked.result c.args.k (omega arith) (omega arith))
