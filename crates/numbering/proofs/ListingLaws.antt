@@ -20,7 +20,7 @@ use Rattle.plan.specs.Marks.{alike_of}
 use Rattle.chains.proofs.ListLaws.{both_true}
 use Rattle.numbering.specs.Numbers.{number_in, meeting}
 use Rattle.numbering.specs.Buckets.{max_names, buckets, slot_at, name_at, Named, held, bucket_of, bucket_at, last_in, Listing, again, Before}
-use Rattle.numbering.proofs.NumberLaws.{number_most, number_same, number_none, number_append, number_new, meeting_known, meeting_new}
+use Rattle.numbering.proofs.NumberLaws.{number_same, number_none, number_append, number_new, meeting_known, meeting_new}
 use Rattle.numbering.proofs.HeldLaws.{held_length, held_at, held_more, last_here, last_past, last_none, last_same, Last, last_is}
 
 -- ---- buckets
@@ -112,9 +112,6 @@ module _ {t head link places : List ℕ} {count : ℕ} (w : Listing t head link 
 
   pub names_known : (k : ℕ) → k ≡ number_in ns x → k < count → ns ≡ meeting ns x
   names_known k e l = let m = held_length t places count in sym (meeting_known ns x (omega arith))
-
-  pub number_new_is : (k : ℕ) → k ≡ number_in ns x → count ≤ k → count ≡ number_in ns x
-  number_new_is k e l = let m = number_most ns x in let h = held_length t places count in omega arith
 
   module _ (r : count < max_names) (g : Named t p) (e : count ≡ number_in ns x) where
     abbrev b : ℕ

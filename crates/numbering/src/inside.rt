@@ -8,7 +8,7 @@ ghost use Rattle.numbering.specs.Buckets.{slot_at, Named, bucket_of, Listing, ag
 
 use plan::inside::SLOT;
 
-// The number that stands for no target.
+// The number that stands for no target, as the definition `target_number` gives it: the search takes numbers.
 pub const NO_TARGET: u16 = 65535;
 
 // The most names of a table, and how many buckets they are spread over.
@@ -17,7 +17,7 @@ const NAMES: usize = 2048;
 const BUCKETS: usize = 4096;
 
 // The number of each record's owner and target in the list of distinct names as first met, owner before target, and that of a given name:
-// the length of the list where no record has it.
+// the length of the list where no record has it, which is then a number that the search finds at no record.
 pub fn number(table: &[u8], name: &[u8], own: &mut [u16], target: &mut [u16]) -> usize
     requires in_order { (InOrder table.now) × (in_standard_form name.now ≡ true) }
     requires table_in_bounds { (count_of table.now ≤ length own.old) × (count_of table.now ≤ length target.old) }
@@ -32,7 +32,7 @@ pub fn number(table: &[u8], name: &[u8], own: &mut [u16], target: &mut [u16]) ->
 }
 
 // The names of a table in order, as they are met: each by its place, in buckets by the mark of its slot. `head` has the last name of each bucket, `link` the
-// one before each name in its bucket, by numbers from 1 on; 0 for none.
+// one before each name in its bucket, by numbers from 1 on; 0 for none, so that a place takes two octets and lists of zeros are empty buckets.
 #[derive(Drop)]
 struct Names<'a> {
     table: &'a [u8],

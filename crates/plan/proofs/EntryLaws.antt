@@ -1,12 +1,11 @@
 -- Laws of the number that a table and a given name earn together.
 use Prim.Native.Nat.{ℕ, zero, suc, ◌≤◌, ◌<◌}
-use mathlib.Core.Path.{◌≡◌, refl, ap, sym, ◌∙◌}
+use mathlib.Core.Path.{◌≡◌, refl, sym, ◌∙◌}
 use mathlib.Core.Bool.{Bool, true, false, not}
 use mathlib.Core.List.{List}
-use lib.Dec.{eqb}
 use lib.ListN.{length, take}
 use native.Mathlib.Omega.{arith}
-use borrow.Author.Tests.{eqb-true, eqb-false, not-false}
+use borrow.Author.Tests.{not-false}
 use Rattle.std.specs.Prelude.{⊤, Ok, Err}
 use Rattle.octets.specs.Octets.{Small}
 use Rattle.octets.specs.declared.Done.{Done}
@@ -18,7 +17,7 @@ use Rattle.labels.specs.Scan.{well_formed}
 use Rattle.names.specs.Standard.{standard_of, in_standard_form}
 use Rattle.names.specs.Name.{held_of}
 use Rattle.names.specs.declared.Name.{Name}
-use Rattle.names.proofs.NameLaws.{held_some, held_none, held_part, held_standard}
+use Rattle.names.proofs.NameLaws.{held_part, held_standard}
 use Rattle.plan.specs.Check.{check_of, check_answer, entry_number, InOrder}
 use Rattle.plan.specs.Faults.{no_place, fault_in, replying, placeless, replied, judged}
 use Rattle.plan.specs.declared.Refused.{Refused}
@@ -30,15 +29,6 @@ module _ (t name : List ℕ) where
   pub entry_refused : (e : Refused) → judged {A = ⊤} (Err e) ≡ replying t (check_answer t) → (code_of e.refusal ≡ entry_number t name) × (e.fault ≡ fault_in t)
   unfolding entry_number
   entry_refused e h = let w = judged_err t e h in (w.1 ∙ sym (else_kept (check_of t) _ w.0), w.2)
-
-  -- the held name has length 0 exactly when it is malformed
-  pub entry_held : Small name → or_else (check_of t) (earns (eqb (held_of name).length 0) 4 0) ≡ entry_number t name
-  unfolding entry_number
-  entry_held s = ap (λ (b : Bool). or_else (check_of t) (earns b 4 0)) (go (eqb (held_of name).length 0) refl)
-    where
-      go : (b : Bool) → eqb (held_of name).length 0 ≡ b → eqb (held_of name).length 0 ≡ not (well_formed name)
-      go true e = e ∙ sym (ap not (held_none name s (eqb-true (held_of name).length 0 e)))
-      go false e = e ∙ sym (ap not (held_some name (eqb-false (held_of name).length 0 e)))
 
   pub entry_name : InOrder t → well_formed name ≡ false → entry_number t name ≡ 4
   unfolding entry_number

@@ -1,5 +1,5 @@
 -- Laws of a record's faults: the fields in their order, and what a record without a fault is like.
-use Prim.Native.Nat.{ℕ, zero, suc, ◌+◌, ◌-◌, ◌≤◌, ◌<◌}
+use Prim.Native.Nat.{ℕ, zero, suc, ◌≤◌, ◌<◌}
 use mathlib.Core.Path.{◌≡◌, refl, ap, ◌∙◌, sym}
 use mathlib.Core.Bool.{Bool, true, false, not}
 use mathlib.Core.List.{List, [], ◌∷◌}
@@ -23,23 +23,7 @@ use Rattle.plan.specs.Layout.{slot_size, a6, dname, type_of, prefix_of, zero_of,
 use Rattle.plan.specs.Check.{slot_good, slot_empty, type_good, prefix_good, address_good, targetless, target_good, ttl_good, field_count, tests_of, field_good, fault_of}
 use Rattle.plan.specs.First.{first_from}
 use Rattle.plan.specs.Good.{Holds, Good}
-use Rattle.plan.proofs.FirstLaws.{first_on, first_here, first_none, none_first}
-
--- the first field at fault from a field on
-abbrev pub left_from : List ℕ → ℕ → ℕ
-left_from r f = first_from (λ i. not (field_good r i)) f (field_count - f)
-
-pub fault_from : (r : List ℕ) → fault_of r ≡ left_from r 0
-unfolding fault_of
-fault_from r = refl
-
--- a test whose answer x is that of the field: it fails, and the field is the first, or it passes and the later ones are left
-module _ {x : Bool} (r : List ℕ) (f : ℕ) (l : f < field_count) (e : x ≡ field_good r f) where
-  pub field_fails : not x ≡ true → left_from r f ≡ f
-  field_fails h = first_here (λ i. not (field_good r i)) f field_count l (ap not (sym e) ∙ h)
-
-  pub field_passes : not x ≡ false → left_from r f ≡ left_from r (f + 1)
-  field_passes h = first_on (λ i. not (field_good r i)) f field_count l (ap not (sym e) ∙ h)
+use Rattle.plan.proofs.FirstLaws.{first_none, none_first}
 
 -- a field has a number
 pub number_known : (f : Field) → field_number (Some f) < field_count
@@ -119,10 +103,6 @@ module _ (r : List ℕ) where
   pub targetless_is : type_of r ≡ a6 → targetless r ≡ eqb (prefix_of r) 0
   unfolding targetless
   targetless_is h = rw (type_is h)
-
-  pub targetless_other : (type_of r ≡ a6 → ⊥) → targetless r ≡ false
-  unfolding targetless
-  targetless_other h = rw (type_not h)
 
   pub targetless_on : (prefix_of r ≡ 0 → ⊥) → targetless r ≡ false
   unfolding targetless

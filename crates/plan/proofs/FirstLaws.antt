@@ -19,10 +19,6 @@ module _ (f : ℕ → Bool) (i n : ℕ) where
   unfolding first_from
   first_here h e = let k : n - i ≡ suc (n - (i + 1)) = omega arith in rw (k, first_from, e)
 
-  pub first_end : n ≤ i → first_from f i (n - i) ≡ i
-  unfolding first_from
-  first_end h = let k : n - i ≡ 0 = omega arith in rw k
-
 pub first_most : (f : ℕ → Bool) (i n : ℕ) → first_from f i n ≤ i + n
 unfolding first_from
 first_most f i zero = omega arith

@@ -4,13 +4,12 @@ use mathlib.Core.Path.{◌≡◌, refl, ap, ◌∙◌, sym}
 use mathlib.Core.Bool.{Bool, true, false}
 use mathlib.Core.List.{List, [], ◌∷◌, map}
 use mathlib.Core.Logic.{⊎_elim}
-use lib.Dec.{ltb, eqb}
-use lib.ListN.{length, get_or, take, set, get_or-map}
-use lib.Seq.{get_or-set_same, get_or-set_other, get_or-take}
+use lib.Dec.{ltb}
+use lib.ListN.{length, get_or, get_or-map}
 use native.Mathlib.Omega.{arith}
 use native.Mathlib.Nat.{zero-add, mul-le-mul}
 use native.Mathlib.Numerals.{add-one}
-use borrow.Author.Tests.{lt-ltb, le-ltb, ltb-true, ltb-false, eqb-true, eqb-false}
+use borrow.Author.Tests.{lt-ltb, le-ltb, ltb-true, ltb-false, eqb-false}
 use Rattle.std.specs.Prelude.{◌==◌, ◌||◌}
 use Rattle.std.specs.List.{fold}
 use Rattle.octets.proofs.BoolLaws.{clash}
@@ -21,7 +20,7 @@ use Rattle.plan.specs.Layout.{name_in, slot_of, owner_slot, is_dname, record_at,
 use Rattle.plan.specs.First.{some}
 use Rattle.plan.specs.Check.{twin, repeats}
 use Rattle.plan.specs.Good.{Holds}
-use Rattle.plan.specs.Marks.{caseless, term_at, sum_to, sum_of, mark_of, mark_at, Marked, Ready}
+use Rattle.plan.specs.Marks.{caseless, term_at, sum_to, sum_of, mark_of, mark_at, Ready}
 use Rattle.plan.proofs.SlotLaws.{lowered_length, lowered_slot}
 use Rattle.plan.proofs.FirstLaws.{none_first, none_some}
 use Rattle.plan.proofs.OrderLaws.{sound_good}
@@ -153,14 +152,3 @@ module _ (t marks : List ℕ) (j m : ℕ) (w : Ready t marks j m) (d : is_dname 
 
   pub no_twin : met_in m false marks ≡ false → some (twin t j) j ≡ false
   no_twin a = none_some (twin t j) j (none_first (twin t j) j (λ i p. twin_not i p (met_not m marks a i (omega (arith, w.size)))))
-
--- the marks as they grow
-pub marked_take : (t marks : List ℕ) (j : ℕ) → Marked t marks j → Marked t (take j marks) j
-marked_take t marks j h i p = get_or-take j marks i 0 p ∙ h i p
-
-pub marked_more : (t marks : List ℕ) (j m : ℕ) → j < length marks → m ≡ mark_at t j → Marked t marks j → Marked t (set marks j m) (j + 1)
-marked_more t marks j m l e h i p = go (eqb i j) refl
-  where
-    go : (v : Bool) → eqb i j ≡ v → get_or (set marks j m) i 0 ≡ mark_at t i
-    go true d = let z = eqb-true i j d in rw z (get_or-set_same marks j m 0 l ∙ e)
-    go false d = let z : i ≡ j → ⊥ = eqb-false i j d in get_or-set_other marks j i m 0 z ∙ h i (omega (arith, z))

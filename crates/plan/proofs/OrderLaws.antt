@@ -43,10 +43,6 @@ module _ (t : List ℕ) where
   unfolding faulty fault_of
   not_faulty i h = some_none (λ f. not (field_good (record_at t i) f)) field_count h
 
-  pub no_fault : count_of t ≤ first_fault t → first_fault t ≡ count_of t
-  unfolding first_fault
-  no_fault h = some_none (faulty t) (count_of t) (le-ltb (first_fault t) (count_of t) h)
-
 -- a table in which no record is at fault
 module _ (t : List ℕ) (s : first_fault t ≡ count_of t) where
   pub sound_good : (i : ℕ) → i < count_of t → Good (record_at t i)

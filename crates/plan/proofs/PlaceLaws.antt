@@ -11,8 +11,8 @@ use Rattle.std.specs.Prelude.{⊤, Result, Ok, Err}
 use Rattle.std.specs.Result.{is_err}
 use Rattle.octets.specs.Answers.{earns, or_else, refusal}
 use Rattle.octets.specs.Refusals.{code_of}
+use Rattle.octets.proofs.RefusalLaws.{code_some}
 use Rattle.octets.specs.declared.Refusal.{Refusal}
-use Rattle.octets.specs.declared.Refusal.TheVariants.{Length, Record, Repeat, Given, Output, Limit, Room, TooLong, Reviving, Prefix, Short, Malformed, LeftOver, Form, Range, Name, Space}
 use Rattle.octets.specs.declared.Answer.{Answer}
 use Rattle.octets.proofs.AnswerLaws.{else_from, else_to}
 use Rattle.octets.proofs.BoolLaws.{clash, refuted}
@@ -43,26 +43,6 @@ module _ (t : List ℕ) where
   -- what an operation replies, of its answer and the fault that it was handed; and what the check does
   pub replies : {a b : Answer} {f : Fault} → a ≡ b → f ≡ fault_in t → record { answer = a; fault = f } ≡ replying t b
   replies e g = λ j. record { answer = e j; fault = g j }
-
--- no refusal has the number 0
-pub code_some : (e : Refusal) → code_of e ≡ 0 → ⊥
-code_some Length h = omega arith
-code_some Record h = omega arith
-code_some Repeat h = omega arith
-code_some Given h = omega arith
-code_some Output h = omega arith
-code_some Limit h = omega arith
-code_some Room h = omega arith
-code_some TooLong h = omega arith
-code_some Reviving h = omega arith
-code_some Prefix h = omega arith
-code_some Short h = omega arith
-code_some Malformed h = omega arith
-code_some LeftOver h = omega arith
-code_some Form h = omega arith
-code_some Range h = omega arith
-code_some Name h = omega arith
-code_some Space h = omega arith
 
 -- what comes of the check of a table: refused with its number and its fault, or the table is in order
 module _ (t : List ℕ) where

@@ -42,7 +42,7 @@ pub enum Kind {
 // All bits of the four octets of a word but the one of each that tells the case of a letter (T-03).
 const CASELESS: u32 = 0xDFDFDFDF;
 
-// The fields of an A6 record; a target of length 0 where it has none (T-06).
+// The fields of an A6 record; a target of length 0 where it has none (T-06), as the record's slot says it and the definitions `fields_of` and `a6_record`.
 #[derive(Clone, Copy)]
 pub struct Fields {
     pub prefix: u8,
@@ -398,6 +398,7 @@ fn pieces(n: u8) -> usize
 }
 
 // Whether the first 32 octets of two slots are the same and hold their names whole: most names that are the same are told by this alone.
+// Eight octets at a time: `==` of slices looks at one after the other.
 pub fn alike(a: &[u8; SLOT], b: &[u8; SLOT]) -> bool
     ensures { result ≡ alike_of a.now b.now }
 {

@@ -32,6 +32,7 @@ pub enum Field {
 }
 
 // The place of a table's fault (T-04): the index of the record, and the number of its field. Both are 0 where there is no such place.
+// The field is a number, of which the theorems on places (FaultAt, Placed) and the figures of the C interface speak.
 #[derive(Clone, Copy, Debug, PartialEq, Eq)]
 pub struct Fault {
     pub index: u32,
@@ -97,7 +98,7 @@ impl From<Result<(), Refused>> for Reply {
     }
 }
 
-// A part of a table: where it starts and how many octets it has.
+// A part of a table: where it starts and how many octets it has, the two figures that the C interface gives.
 #[derive(Clone, Copy, Debug, PartialEq, Eq)]
 pub struct Part {
     pub offset: usize,
@@ -288,7 +289,7 @@ fn first_repeat(table: &[u8]) -> Option<usize>
     None
 }
 
-// The mark of a DNAME's owner; 0 for any other record.
+// The mark of a DNAME's owner; 0 for any other record. As an option it would take twice the room in a list that is looked at from end to end.
 fn mark_at(table: &[u8], index: usize) -> u16
     requires { index < count_of table.now }
     ensures { result ≡ mark_at table.now index }
