@@ -16,7 +16,7 @@ ghost use Rattle.collapse.specs.Running.{lesser_of, greater_of, crossed, span_of
 
 use octets::{Done, Refusal};
 use plan::Refused;
-use plan::inside::{Kind, RECORD, SLOT};
+use plan::inside::{Kind, Parts, RECORD, SLOT};
 
 // The most records of a table (01, The plan table).
 const MAX_RECORDS: usize = 1024;
@@ -165,6 +165,7 @@ fn survey(table: &[u8], name: &[u8]) -> Span
 }
 
 // The records of a table by the bucket of their owner, in table order: the first of each bucket, and after each record the next of its bucket.
+// Records are named by index, since memory is fixed: nothing here may allocate.
 #[derive(Drop)]
 struct Buckets {
     first: [Option<u16>; BUCKETS],
@@ -291,15 +292,14 @@ fn put_joined(r: &[u8; RECORD], q: &[u8; RECORD], out: &mut [u8], n: usize)
     if n < out.len() / RECORD {
         let high = *plan::inside::address_of(q);
         let low = *plan::inside::address_of(r);
-        plan::inside::write_record(
-            Kind::A6,
-            plan::inside::prefix_of(q),
-            address::join(high, low, plan::inside::prefix_of(r)),
-            plan::inside::owner_slot(r),
-            plan::inside::target_slot(q),
-            plan::inside::ttl_of(r).min(plan::inside::ttl_of(q)),
-            out,
-            n * RECORD,
-        );
+        let parts = Parts {
+            kind: Kind::A6,
+            prefix: plan::inside::prefix_of(q),
+            address: address::join(high, low, plan::inside::prefix_of(r)),
+            owner: plan::inside::owner_slot(r),
+            target: plan::inside::target_slot(q),
+            ttl: plan::inside::ttl_of(r).min(plan::inside::ttl_of(q)),
+        };
+        parts.write(out, n * RECORD);
     }
 }

@@ -15,7 +15,7 @@ returns-then-n-out c =
     let j : c.join.result ≡ bits a.r.now a.q.now = c.join.ensures ∙ rw (c.address_of-high.ensures, c.address_of-low.ensures, c.prefix_of-then-n-out.ensures) in
     let m : c.min.result ≡ least a.r.now a.q.now = c.min.ensures ∙ λ i. min (c.ttl_of.ensures i) (c.ttl_of-then-n-out.ensures i) in
     let e = joined_is a.r.now a.q.now _ _ _ _ _ c.prefix_of.ensures j c.owner_slot.ensures c.target_slot.ensures m in
-    c.write_record.ensures ∙ ap (λ (s : List ℕ). paste a.out.now (a.n * record_size) s record_size) e ∙ sym (stored_in a.out.now a.n (joined_of a.r.now a.q.now) c.if-n-out.true)
+    c.write.ensures ∙ ap (λ (s : List ℕ). paste a.out.now (a.n * record_size) s record_size) e ∙ sym (stored_in a.out.now a.n (joined_of a.r.now a.q.now) c.if-n-out.true)
 
 pub returns-else-n-out : goal.returns-else-n-out
 returns-else-n-out c = let a = c.args in sym (stored_out a.out.now a.n (joined_of a.r.now a.q.now) c.if-n-out.false)
