@@ -1,9 +1,9 @@
 -- A step into a record: the record is out of its list while the search goes on from it, and is in it again afterwards.
-use Prim.Native.Nat.{ℕ, suc, ◌-◌, ◌<◌, min}
+use Prim.Native.Nat.{ℕ, suc, ◌-◌, ◌<◌, min, ◌≤◌, ◌+◌}
 use mathlib.Core.Path.{◌≡◌, refl, sym, ap, ◌∙◌}
 use mathlib.Core.List.{List}
 use native.Mathlib.Omega.{arith}
-use lib.ListN.{get_or, set, length-set}
+use lib.ListN.{length, get_or, set, length-set}
 use Rattle.address.specs.Address.{join_of}
 use Rattle.chains.specs.Listing.{free}
 use Rattle.chains.proofs.ListingLaws.{free_mark}
@@ -13,6 +13,7 @@ use Rattle.search.specs.Links.{max_nodes, max_names}
 use Rattle.search.specs.Memory.{Memory, memory, state_of, unused_of, search_of, step_of, Fit, Ready, Leaves}
 use Rattle.search.proofs.LinkLaws.{prev_node, next_node, marks_out, unlinked_marks, relinked_next, relinked_prev, prev_own, next_own}
 use Rattle.search.proofs.SearchLaws.{stepped_end, stepped_on}
+use Rattle.search.proofs.GoingLaws.{sought, going_start, going_end}
 
 -- the memory with the record i taken out from between its neighbours, and one chain counted
 abbrev pub next_without : Memory → ℕ → List ℕ
@@ -64,6 +65,14 @@ module _ {r : Records} {m : Memory} {bound i : ℕ} (o : Ready r m bound i) wher
     some = h;
     bounded = omega (arith, o.fit.bounded, o.short);
   }
+
+  -- where the target has no unused record there is nothing to search
+  pub nothing : (a : List ℕ) (c : ℕ) → 0 < length_of r i → length r.owners ≤ get_or (next_without m i) (length r.owners + target_of r i) 0
+      → Leaves (without m i) (without m i) (onward r m bound i a c)
+  nothing a c h e =
+      let q = sought r (target_of r i) (length_of r i) (join_of (address_at r i) a bound) (min c (ttl_of r i)) (without m i) in
+      let g = fit_without h in
+      going_end q g (going_start q g _ (target_name h) refl) e
 
   -- afterwards the record is in again, between the neighbours that it still has
   module _ (a : List ℕ) (c : ℕ) (m' : Memory) (d : Leaves (without m i) m' (onward r m bound i a c)) where

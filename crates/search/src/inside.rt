@@ -122,32 +122,37 @@ impl Search<'_, '_, '_> {
             (step_of (records_of self.old.records) i chain.bound (whole chain.address) chain.ttl (memory_of self.old)) }
     {
         let fields = &self.records.fields[i];
-        let longer = chain.with(fields);
         self.left -= 1;
         if fields.length == 0 {
             if !self.rows.is_full() {
-                self.rows.keep(longer.address, longer.ttl);
+                let found = chain.with(fields);
+                self.rows.keep(found.address, found.ttl);
             }
         } else {
+            let n = self.records.owners.len();
             let target = usize::from(fields.target);
             self.lists.unlink(i);
-            self.over(target, longer);
+            let first = self.lists.after(n + target);
+            if first < n {
+                self.over(target, first, chain.with(fields));
+            }
             self.lists.relink(i);
         }
     }
 
-    // Over the unused records of the name x; it ends where no chain may be counted any more.
+    // Over the unused records of the name x, from the first of them on; it ends where no chain may be counted any more.
     #[cycle(search_step)]
-    fn over(&mut self, x: usize, chain: Chain)
-        requires { Fit (records_of self.old.records) (memory_of self.old) chain.bound × (x < max_names) }
+    fn over(&mut self, x: usize, first: usize, chain: Chain)
+        requires fit { Fit (records_of self.old.records) (memory_of self.old) chain.bound }
+        requires first_of_x { (x < max_names) × (first ≡ get_or self.old.lists.now.next (length self.old.records.owners.now + x) 0) }
         ensures lent { Borrows self.old self.new }
         ensures done { Leaves (memory_of self.old) (memory_of self.new)
             (search_of (records_of self.old.records) x chain.bound (whole chain.address) chain.ttl (memory_of self.old)) }
     {
-        let n = self.records.owners.len();
-        let mut i = self.lists.after(n + x);
-        while i < n && self.left != 0 {
-            if self.records.fields[i].length <= chain.bound {
+        let records = self.records;
+        let mut i = first;
+        while i < records.owners.len() && self.left != 0 {
+            if records.fields[i].length <= chain.bound {
                 self.step(i, chain);
             }
             i = self.lists.after(i);
@@ -192,7 +197,8 @@ pub fn find(
         rows: &mut rows,
         left: most,
     };
-    search.over(x, Chain::NONE);
+    let first = search.lists.after(records.owners.len() + x);
+    search.over(x, first, Chain::NONE);
     let left = search.left;
     let full = search.rows.is_full();
     let count = search.rows.count();

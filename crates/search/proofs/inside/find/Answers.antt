@@ -64,11 +64,12 @@ over-requires c =
     let p = c.requires in
     let a = c.args in
     let l = c.link in
-    let here = (goal.at.over-requires c).After-new-rows in (
-      subst (λ (m : Memory). Fit (records_of a.records) m 128) (sym (begins here))
-          (fit_first (records_of a.records) p.numbered.0 l.new.self.next l.new.self.prev a.out.now a.lives.now a.limit l.ensures p.out_len.0 p.out_len.1 p.out_len.2 p.out_len.3),
-      p.numbered.1,
-    )
+    let here = (goal.at.over-requires c).After-new-rows in
+    record {
+      fit = subst (λ (m : Memory). Fit (records_of a.records) m 128) (sym (begins here))
+          (fit_first (records_of a.records) p.numbered.0 l.new.self.next l.new.self.prev a.out.now a.lives.now a.limit l.ensures p.out_len.0 p.out_len.1 p.out_len.2 p.out_len.3);
+      first_of_x = (p.numbered.1, c.after-first.ensures);
+    }
 
 -- the number that is due: 6 where no chain is left to count, 7 where there was no room
 due_over : (c : After-over) → c.over.new.self.left ≡ 0 → number c ≡ 6

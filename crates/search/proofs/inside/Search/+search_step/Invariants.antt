@@ -1,5 +1,6 @@
 -- `search::inside::Search::over` and `step`: unused records fall with each step, and the loop's invariant is that what is passed has been searched.
 use Prim.Native.Nat.{◌+◌, ◌-◌, ◌*◌}
+use lib.ListN.{length}
 use Rattle.chains.specs.Listing.{free}
 use Rattle.rows.specs.Halves.{whole}
 use Rattle.search.specs.Search.{records_of}
@@ -19,4 +20,4 @@ invariant-over-loop-i l =
     Borrows s l.self × Going (sought (records_of s.records) l.x l.chain.bound (whole l.chain.address) l.chain.ttl (memory_of s)) (memory_of l.self) l.i
 
 abbrev pub decreases-over-loop-i : goal.decreases-over-loop-i
-decreases-over-loop-i l = l.n - l.i
+decreases-over-loop-i l = length l.records.owners.now - l.i
