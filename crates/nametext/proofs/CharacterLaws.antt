@@ -1,5 +1,5 @@
 -- Laws of the octets of a text, and of texts whose octets all pass a test.
-use Prim.Native.Nat.{ℕ, suc, ◌+◌, ◌/◌, ◌%◌, ◌≤◌, ◌<◌}
+use Prim.Native.Nat.{ℕ, suc, ◌+◌, ◌-◌, ◌/◌, ◌%◌, ◌≤◌, ◌<◌}
 use mathlib.Core.Path.{◌≡◌, refl, ap, ◌∙◌}
 use mathlib.Core.Bool.{Bool, true, false, not}
 use mathlib.Core.List.{List, [], ◌∷◌, ◌++◌}
@@ -7,9 +7,10 @@ use lib.Dec.{ltb, eqb}
 use lib.ListN.{length, take}
 use native.Mathlib.Omega.{arith}
 use borrow.Author.Tests.{lt-ltb, le-ltb, ne_eqb, ltb-true, ltb-false}
+use Rattle.std.specs.Char.{to_ascii_uppercase}
 use Rattle.octets.proofs.BoolLaws.{clash, or_true}
-use Rattle.text.specs.Digits.{between, is_digit, is_hex, digit_in, leading}
-use Rattle.text.proofs.DigitLaws.{in_figure, in_capital}
+use Rattle.text.specs.Digits.{between, is_digit, is_hex, digit_in, digit_octet, leading}
+use Rattle.text.proofs.DigitLaws.{in_figure, in_capital, octet_figure, octet_letter}
 use Rattle.text.proofs.DecimalLaws.{between_is, is_between}
 use Rattle.nametext.specs.Characters.{is_plain, may_name, hex_digit, three_digits}
 
@@ -116,6 +117,17 @@ hex_low v h = rw (hex_digit, lt-ltb v 10 h)
 pub hex_high : (v : ℕ) → 10 ≤ v → hex_digit v ≡ 55 + v
 unfolding hex_digit
 hex_high v h = rw (hex_digit, le-ltb v 10 h)
+
+-- a digit of the text made upper-case, as the library has it
+pub hex_upper : (v : ℕ) → v < 16 → to_ascii_uppercase (digit_octet v) ≡ hex_digit v
+hex_upper v h = go (ltb v 10) refl
+  where
+    go : (b : Bool) → ltb v 10 ≡ b → to_ascii_uppercase (digit_octet v) ≡ hex_digit v
+    go true e = let k = ltb-true v 10 e in rw (octet_figure v k, hex_low v k, lt-ltb (48 + v) 97 (omega arith)) refl
+    go false e =
+        let k = ltb-false v 10 e in
+        let m : 87 + v - 32 ≡ 55 + v = omega arith in
+        rw (octet_letter v k, hex_high v k, le-ltb (87 + v) 97 (omega arith), lt-ltb (87 + v) 123 (omega arith)) m
 
 pub hex_again : (v : ℕ) → v < 16 → digit_in (hex_digit v) ≡ v
 hex_again v h = go (ltb v 10) refl

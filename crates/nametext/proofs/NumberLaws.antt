@@ -59,12 +59,3 @@ module _ (text : List ℕ) where
       go (inr (inl e)) = rw (told_refused Form e) (sym e)
       go (inr (inr (inl e))) = rw (told_refused Range e) (sym e)
       go (inr (inr (inr e))) = rw (told_refused Name e) (sym e)
-
-  pub told_last : (text_number text ≡ 0 → ⊥) → (text_number text ≡ 20 → ⊥) → (text_number text ≡ 21 → ⊥) → name_told text ≡ Err Name
-  told_last f g h = go number_some
-    where
-      go : (text_number text ≡ 0) ⊎ ((text_number text ≡ 20) ⊎ ((text_number text ≡ 21) ⊎ (text_number text ≡ 22))) → name_told text ≡ Err Name
-      go (inl e) = absurd (f e)
-      go (inr (inl e)) = absurd (g e)
-      go (inr (inr (inl e))) = absurd (h e)
-      go (inr (inr (inr e))) = told_refused Name e

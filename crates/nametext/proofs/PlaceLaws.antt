@@ -24,6 +24,7 @@ use Rattle.nametext.specs.Places.{Dot, Ended, Stands, part_by, ordinary_part, Fi
 use Rattle.std.specs.Prelude.{Ok, Err}
 use Rattle.octets.specs.declared.Refusal.TheVariants.{Form, Range}
 use Rattle.text.specs.Digits.{leading}
+use Rattle.nametext.proofs.PlainLaws.{no_backslash}
 use Rattle.text.proofs.LeadingLaws.{leading_more, leading_stop, leading_few, leading_first, leading_rest}
 use Rattle.nametext.specs.declared.reading.Part.TheVariants.{Word}
 use Rattle.nametext.specs.declared.reading.Octet.{Octet}
@@ -81,10 +82,6 @@ dot_passed text at r h e =
 -- escapes
 abbrev three_at : List ℕ → Bool
 three_at p = is_digit (get_or p 1 0) && (is_digit (get_or p 2 0) && is_digit (get_or p 3 0))
-
-no_backslash : (x : ℕ) → is_plain x ≡ true → x ≡ 92 → ⊥
-unfolding is_plain
-no_backslash x h e = clash (sym (ap is_plain e) ∙ h) refl
 
 module _ (p : List ℕ) (h : 0 < length p) where
   whole : p ≡ get_or p 0 0 ∷ drop 1 p

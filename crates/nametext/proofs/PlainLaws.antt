@@ -19,7 +19,7 @@ use Rattle.nametext.specs.declared.reading.Part.TheVariants.{Word}
 use Rattle.nametext.specs.Places.{part_by, ordinary_part, Filled}
 use Rattle.text.proofs.LeadingLaws.{leading_first, leading_rest}
 
-no_backslash : (x : ℕ) → is_plain x ≡ true → x ≡ 92 → ⊥
+pub no_backslash : (x : ℕ) → is_plain x ≡ true → x ≡ 92 → ⊥
 unfolding is_plain
 no_backslash x h e = clash (sym (ap is_plain e) ∙ h) refl
 

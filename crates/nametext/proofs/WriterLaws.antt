@@ -4,8 +4,8 @@ use mathlib.Core.Path.{◌≡◌, refl, ap, ◌∙◌, sym}
 use mathlib.Core.Bool.{Bool, true, false}
 use mathlib.Core.List.{List, [], ◌∷◌, ◌++◌, map, map-append, append_assoc, append-nil}
 use lib.Dec.{eqb}
-use lib.ListN.{length, get_or, take, drop, set, length-set, length-append, length-map, length-drop}
-use lib.Seq.{take-suc, length-take-le, get_or-drop}
+use lib.ListN.{length, get_or, take, set, length-set, length-append, length-map}
+use lib.Seq.{take-suc, length-take-le}
 use native.Mathlib.Omega.{arith}
 use native.Mathlib.Numerals.{add-one}
 use borrow.Author.Tests.{eq-eqb, ne_eqb}
@@ -73,43 +73,34 @@ ordinary_more l i h =
     rw (add-one i, take-suc l i 0 h, ordinary_append (take i l) (get_or l i 0 ∷ [])) (ap (λ (ys : List ℕ). ordinary_text (take i l) ++ ys) (sym (append-nil (octet_text (get_or l i 0)))))
 
 -- a turn of the loop over an ordinary label's octets
-pub octets_turn : (name old mid new : List ℕ) (at n to t end i : ℕ) → at + n ≤ length name → i < n → to + 4 * n ≤ length old
-    → Put old mid to t (ordinary_text (take i (drop at name))) → Put mid new t end (octet_text (get_or name (at + i) 0))
-    → Put old new to end (ordinary_text (take (i + 1) (drop at name)))
-octets_turn name old mid new at n to t end i f h r p q =
-    let d = length-drop at name in
-    let l = length-take-le i (drop at name) (omega arith) in
-    let a = ordinary_short (take i (drop at name)) in
-    let b = octet_short (get_or name (at + i) 0) in
-    let e : octet_text (get_or name (at + i) 0) ≡ octet_text (get_or (drop at name) i 0) = ap octet_text (sym (get_or-drop at name i 0)) in
-    put_as old new to end _ _ (ap (λ (ys : List ℕ). ordinary_text (take i (drop at name)) ++ ys) e ∙ ordinary_more (drop at name) i (omega arith))
-    (put_then old mid new to t end (ordinary_text (take i (drop at name))) (octet_text (get_or name (at + i) 0)) (omega arith) p q)
+module _ (xs old mid : List ℕ) (to t i : ℕ) (h : i < length xs) (r : to + 4 * length xs ≤ length old) (p : Put old mid to t (ordinary_text (take i xs))) where
+  pub octets_room : t + 4 ≤ length old
+  octets_room =
+      let l = length-take-le i xs (omega arith) in
+      let a = ordinary_short (take i xs) in
+      omega (arith, p.0)
 
-pub octets_room : (name old mid : List ℕ) (at n to t i : ℕ) → at + n ≤ length name → i < n → to + 4 * n ≤ length old
-    → Put old mid to t (ordinary_text (take i (drop at name))) → t + 4 ≤ length old
-octets_room name old mid at n to t i f h r p =
-    let d = length-drop at name in
-    let l = length-take-le i (drop at name) (omega arith) in
-    let a = ordinary_short (take i (drop at name)) in
-    omega (arith, p.0)
+  pub octets_turn : (new : List ℕ) (end : ℕ) → Put mid new t end (octet_text (get_or xs i 0)) → Put old new to end (ordinary_text (take (i + 1) xs))
+  octets_turn new end q =
+      let l = length-take-le i xs (omega arith) in
+      let a = ordinary_short (take i xs) in
+      put_as old new to end _ _ (ordinary_more xs i h) (put_then old mid new to t end (ordinary_text (take i xs)) (octet_text (get_or xs i 0)) (omega arith) p q)
 
 -- a turn of the loop over hex digits
 pub hex_more : (l : List ℕ) (i : ℕ) → i < length l → map hex_digit (take i l) ++ (hex_digit (get_or l i 0) ∷ []) ≡ map hex_digit (take (i + 1) l)
 hex_more l i h = rw (add-one i, take-suc l i 0 h) (sym (map-append hex_digit (take i l) (get_or l i 0 ∷ [])))
 
-pub digits_turn : (name old mid : List ℕ) (at n to i v : ℕ) → at + (n + 1) / 2 ≤ length name → i < n → to + n ≤ length old → length mid ≡ length old
-    → v ≡ hex_digit (nibble_of (get_or name (at + i / 2) 0) i) → Put old mid to (to + i) (map hex_digit (take i (nibbles (drop at name))))
-    → Put old (set mid (to + i) v) to (to + (i + 1)) (map hex_digit (take (i + 1) (nibbles (drop at name))))
-digits_turn name old mid at n to i v f h r m e p =
-    let d = length-drop at name in
-    let k = nibbles_length (drop at name) in
-    let w : v ≡ hex_digit (get_or (nibbles (drop at name)) i 0) =
-    e ∙ ap (λ (x : ℕ). hex_digit (nibble_of x i)) (sym (get_or-drop at name (i / 2) 0)) ∙ ap hex_digit (sym (nibble_at (drop at name) i (omega arith))) in
+pub digits_turn : (xs old mid : List ℕ) (n to i v : ℕ) → (n + 1) / 2 ≤ length xs → i < n → to + n ≤ length old → length mid ≡ length old
+    → v ≡ hex_digit (nibble_of (get_or xs (i / 2) 0) i) → Put old mid to (to + i) (map hex_digit (take i (nibbles xs)))
+    → Put old (set mid (to + i) v) to (to + (i + 1)) (map hex_digit (take (i + 1) (nibbles xs)))
+digits_turn xs old mid n to i v f h r m e p =
+    let k = nibbles_length xs in
+    let w : v ≡ hex_digit (get_or (nibbles xs) i 0) = e ∙ ap hex_digit (sym (nibble_at xs i (omega arith))) in
     let a : to + i + 1 ≡ to + (i + 1) = omega arith in
-    let l = length-map (take i (nibbles (drop at name))) hex_digit in
-    let t = length-take-le i (nibbles (drop at name)) (omega arith) in
-    let D = map hex_digit (take i (nibbles (drop at name))) in
-    rw (← a) (put_as old (set mid (to + i) v) to (to + i + 1) (D ++ (v ∷ [])) _ (ap (λ (y : ℕ). D ++ (y ∷ [])) w ∙ hex_more (nibbles (drop at name)) i (omega arith))
+    let l = length-map (take i (nibbles xs)) hex_digit in
+    let t = length-take-le i (nibbles xs) (omega arith) in
+    let D = map hex_digit (take i (nibbles xs)) in
+    rw (← a) (put_as old (set mid (to + i) v) to (to + i + 1) (D ++ (v ∷ [])) _ (ap (λ (y : ℕ). D ++ (y ∷ [])) w ∙ hex_more (nibbles xs) i (omega arith))
     (put_then old mid (set mid (to + i) v) to (to + i) (to + i + 1) D (v ∷ []) (omega arith) p (put_one mid (to + i) v (omega arith))))
 
 -- a bit label put together

@@ -1,5 +1,5 @@
+-- `nametext::inside::put_name` meets its contract.
 use Prim.Native.Nat.{◌<◌}
-use mathlib.Core.Path.{refl}
 use native.Mathlib.Omega.{arith}
 use lib.ListN.{length}
 use Rattle.names.proofs.MergeLaws.{begins_start, begins_inside}
@@ -13,7 +13,7 @@ some : (c : Start) → 0 < length c.args.name.now
 some c = begins_inside c.args.name.now 0 (begins_start c.args.name.now c.requires.0)
 
 left : (c : At-loop-at) → c.loop-at.at < length c.args.name.now
-left c = begins_inside c.args.name.now c.loop-at.at c.loop-at.invariant.0.begins
+left c = begins_inside c.args.name.now c.loop-at.at c.loop-at.invariant.begins
 
 pub bounds-name-0 : goal.bounds-name-0
 bounds-name-0 c = some (goal.at.bounds-name-0 c).Start
@@ -30,36 +30,33 @@ returns-then-name-eq0 c =
     put_as _ _ _ _ _ _ (root_text c.args.name.now c.requires.0 c.if-name-eq0.true) (put_one c.args.out.now c.args.to 46 (omega (arith, some here)))
 
 pub loop-at-init : goal.loop-at-init
-loop-at-init c = (writing_start c.args.name.now c.args.out.now c.args.to c.requires.0 c.if-name-eq0.false, refl)
+loop-at-init c = writing_start c.args.name.now c.args.out.now c.args.to c.requires.0 c.if-name-eq0.false
 
 pub bounds-name-at : goal.bounds-name-at
 bounds-name-at c = left (goal.at.bounds-name-at c).At-loop-at
-
-pub returns-then-name-at-eq0 : goal.returns-then-name-at-eq0
-returns-then-name-at-eq0 c =
-    let a = c.args in
-    let l = c.loop-at in
-    writing_end a.name.now a.out.now l.out l.at a.to l.t l.invariant.0 c.requires.1 c.if-name-at-eq0.true
 
 pub put_label-p-requires : goal.put_label-p-requires
 put_label-p-requires c =
     let a = c.args in
     let l = c.loop-at in
-    let w = l.invariant.0 in
+    let w = l.invariant in
     record {
       begins = w.begins;
-      nonzero = (omega (arith, c.if-name-at-eq0.false), writing_room a.name.now a.out.now l.out l.at a.to l.t w c.requires.1);
+      nonzero = (omega (arith, c.loop-at-test.true), writing_room a.name.now a.out.now l.out l.at a.to l.end w c.requires.1);
     }
 
 pub loop-at-smaller : goal.loop-at-smaller
-loop-at-smaller c = omega (arith, left (goal.at.loop-at-smaller c).At-loop-at, c.loop-at.invariant.1, c.put_label-p.ensures.on)
+loop-at-smaller c = omega (arith, left (goal.at.loop-at-smaller c).At-loop-at, c.put_label-p.ensures.on)
 
 pub loop-at-preserved : goal.loop-at-preserved
 loop-at-preserved c =
     let a = c.args in
     let l = c.loop-at in
     let p = c.put_label-p in
-    (writing_turn a.name.now a.out.now l.out l.at a.to l.t l.invariant.0 c.requires.1 _ p.result p.ensures p.auto.out, l.invariant.1)
+    writing_turn a.name.now a.out.now l.out l.at a.to l.end l.invariant c.requires.1 _ p.result p.ensures p.auto.out
 
 pub returns : goal.returns
-returns c = let z : ⊥ = omega (arith, left (goal.at.returns c).At-loop-at, c.loop-at.invariant.1, c.loop-at-test.false) in absurd z
+returns c =
+    let a = c.args in
+    let l = c.loop-at in
+    writing_end a.name.now a.out.now l.out l.at a.to l.end l.invariant c.requires.1 c.loop-at-test.false

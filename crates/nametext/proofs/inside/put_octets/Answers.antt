@@ -1,33 +1,25 @@
-use Prim.Native.Nat.{ℕ}
-use mathlib.Core.Path.{◌≡◌, refl, ap, ◌∙◌}
+-- `nametext::inside::put_octets` meets its contract.
+use mathlib.Core.Path.{refl}
 use mathlib.Core.List.{[]}
 use native.Mathlib.Omega.{arith}
-use lib.ListN.{take, drop}
 use Rattle.nametext.specs.Writing.{ordinary_text}
-use Rattle.text.proofs.WrittenLaws.{put_none, put_as}
+use Rattle.text.proofs.WrittenLaws.{put_none}
 use Rattle.nametext.proofs.WriterLaws.{octets_turn, octets_room}
 use Rattle.nametext.proofs.inside.put_octets.Goals as goal
 
-pub loop-i-init : goal.loop-i-init
+pub loop-x-init : goal.loop-x-init
 unfolding ordinary_text
-loop-i-init c = (omega arith, refl, put_none c.args.out.now c.args.to [] refl)
+loop-x-init c = put_none c.args.out.now c.args.to [] refl
 
-pub put_octet-t-requires : goal.put_octet-t-requires
-put_octet-t-requires c =
+pub put_octet-end-requires : goal.put_octet-end-requires
+put_octet-end-requires c =
     let a = c.args in
-    let l = c.loop-i in
-    let r = octets_room a.name.now a.out.now l.out a.at a.n a.to l.t l.i (omega arith) (omega arith) (omega arith) l.invariant.2 in
-    omega arith
+    let l = c.loop-x in
+    let r = octets_room a.octets.now a.out.now l.out a.to l.end l.x-index (omega arith) c.requires l.invariant in
+    omega (arith, r, l.auto.out)
 
-pub loop-i-preserved : goal.loop-i-preserved
-loop-i-preserved c =
+pub loop-x-preserved : goal.loop-x-preserved
+loop-x-preserved c =
     let a = c.args in
-    let l = c.loop-i in
-    (omega arith, c.put_octet-t.auto.out ∙ l.invariant.1, octets_turn a.name.now a.out.now l.out _ a.at a.n a.to l.t _ l.i (omega arith) (omega arith) (omega arith) l.invariant.2 c.put_octet-t.ensures)
-
-pub returns : goal.returns
-returns c =
-    let a = c.args in
-    let l = c.loop-i in
-    let e : l.i ≡ a.n = omega arith in
-    put_as _ _ _ _ _ _ (ap (λ (k : ℕ). ordinary_text (take k (drop a.at a.name.now))) e) l.invariant.2
+    let l = c.loop-x in
+    octets_turn a.octets.now a.out.now l.out a.to l.end l.x-index (omega arith) c.requires l.invariant _ _ c.put_octet-end.ensures
