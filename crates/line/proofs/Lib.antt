@@ -4,6 +4,7 @@ pub mod LongestLaws
 pub mod Examples
 pub mod WordLaws
 pub mod WalkLaws
+pub mod ValueLaws
 pub mod WalkedLaws
 pub mod OrderLaws
 pub mod WorseLaws

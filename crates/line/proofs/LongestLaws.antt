@@ -1,12 +1,11 @@
 -- How long a line can be (T-06).
 use Prim.Native.Nat.{ℕ, zero, suc, ◌+◌, ◌*◌, ◌≤◌, ◌<◌}
-use mathlib.Core.Path.{◌≡◌, refl}
+use mathlib.Core.Path.{◌∙◌, ◌≡◌, refl}
 use mathlib.Core.Bool.{Bool, true, false}
 use mathlib.Core.List.{List, [], ◌∷◌, ◌++◌}
 use lib.Dec.{ltb, eqb}
 use lib.ListN.{length, get_or, replicate, length-append}
 use native.Mathlib.Omega.{arith}
-use native.Mathlib.Nat.{sub-zero}
 use borrow.Author.Tests.{ltb-true, ltb-false, eqb-true, eqb-false}
 use Rattle.octets.specs.Octets.{blank, Small}
 use Rattle.octets.proofs.BoolLaws.{clash}
@@ -15,7 +14,7 @@ use Rattle.names.specs.declared.Name.{Name}
 use Rattle.names.specs.Name.{name_of}
 use Rattle.names.proofs.StandardLaws.{in_standard}
 use Rattle.address.specs.Address.{clear_to}
-use Rattle.address.proofs.ClearLaws.{clear_off}
+use Rattle.address.proofs.ClearLaws.{clear_split}
 use Rattle.plan.specs.declared.inside.Fields.{Fields}
 use Rattle.chains.specs.Graph.{max_ttl}
 use Rattle.plan.specs.Fields.{one_a6, fields_of, a6_record, HoldsName, SoundFields}
@@ -46,7 +45,7 @@ group_low n (x ∷ y ∷ rest) l s h c = go (eqb x 0) refl
   where
     go : (b : Bool) → eqb x 0 ≡ b → x * 256 + y < 256
     go true e = let z = eqb-true x 0 e in omega (arith, s 1)
-    go false e = absurd (clash (rw (← sub-zero n) at c) (clear_off n 0 (x ∷ y ∷ rest) (omega arith) (omega arith) (s 0) (eqb-false x 0 e)))
+    go false e = absurd (clash c (clear_split n 1 (x ∷ y ∷ rest) s (omega arith) ∙ rw e))
 
 -- the prefix length and the address together: the longer the one, the more bits of the other are zero
 middle_short : (f : Fields) → SoundFields f → length (write_decimal f.prefix) + length (write_address f.address) ≤ 40

@@ -1,34 +1,36 @@
 -- All the words of a line, read one after the other.
 use Prim.Native.Nat.{ℕ, ◌≤◌, ◌<◌, min}
-use mathlib.Core.Path.{◌≡◌, refl, ap, sym, ◌∙◌, subst}
-use mathlib.Core.Bool.{Bool, true, false}
+use mathlib.Core.Path.{◌≡◌, refl, ap, sym, ◌∙◌}
+use mathlib.Core.Bool.{Bool, true, false, not, ◌&&◌}
 use mathlib.Core.List.{List, [], ◌∷◌}
-use lib.Dec.{eqb}
+use lib.Dec.{ltb, eqb}
 use lib.ListN.{length, drop}
 use native.Mathlib.Omega.{arith}
-use borrow.Author.Tests.{eq-eqb, ne_eqb, eqb-true, eqb-false}
+use borrow.Author.Tests.{eq-eqb, ne_eqb, eqb-true, eqb-false, ltb-true, ltb-false}
 use Rattle.octets.specs.Octets.{blank}
 use Rattle.address.specs.Address.{join_of}
 use Rattle.chains.specs.Graph.{max_ttl}
+use mathlib.Core.Logic.{◌⊎◌, inl, inr}
+use Rattle.std.specs.Prelude.{Result}
+use Rattle.octets.specs.Answers.{earns}
+use Rattle.octets.specs.declared.Refusal.{Refusal}
+use Rattle.names.specs.declared.Name.{Name}
 use Rattle.plan.specs.declared.inside.Fields.{Fields}
-use Rattle.text.specs.Decimal.{decimal_of}
+use Rattle.text.specs.Decimal.{digit_count, decimal_of, is_decimal}
 use Rattle.text.specs.AddressText.{read_address}
 use Rattle.text.proofs.Computing.{text_compute}
 use Rattle.nametext.specs.Reading.{text_number, name_held}
-use Rattle.nametext.specs.declared.reading.Named.{Named}
 use Rattle.line.specs.Words.{words_of, word}
 use Rattle.line.specs.Reading.{decimal_number, type_number, address_number, with_ttl, length_in, with_address, rest_number, worst, fields_in}
-use Rattle.line.specs.Walk.{word_at, word_end, passed, next, tail_from, ttl_word, type_place, worse, full_of, end_number, late_number, word_numbers}
-use Rattle.line.specs.Walked.{NumberAt, NameAt, LivedAt, RestAt}
-use Rattle.line.specs.declared.reading.Number.{Number}
-use Rattle.line.specs.declared.reading.Lived.{Lived}
-use Rattle.line.specs.declared.reading.Rest.{Rest}
+use Rattle.line.specs.Walk.{word_at, word_end, passed, next, tail_from, ttl_word, type_place, lived_number, worse, full_of, end_number, late_number, word_numbers}
+use Rattle.line.specs.Walked.{value_by, prefix_in}
 use Rattle.line.proofs.OrderLaws.{Known, name_known, decimal_known, type_known, address_known, rest_known}
-use Rattle.line.proofs.WorseLaws.{worse_20, 20_worse, worse_known, worse_zero}
+use Rattle.line.proofs.WorseLaws.{worse_20, 20_worse, worse_known, Formed, formed, formed_worse, worse_21, 21_worse, worse_kept}
+use Rattle.line.proofs.WalkedLaws.{worse_left}
+use Rattle.line.proofs.RestLaws.{late_known}
 use Rattle.line.proofs.WalkLaws.{end_within, next_within}
-use Rattle.line.proofs.LivedLaws.{passed_end}
+use Rattle.line.proofs.LivedLaws.{decimal_ranges, lived_ranged, passed_end}
 use Rattle.line.proofs.BodyLaws.{timed, timed_length, timed_rest, front, Ended, ended, numbers_worse}
-use Rattle.line.proofs.ReadLaws.{decimal_low}
 
 -- a prefix length is looked at as 0, 128 or another one: over 128 they are all alike
 module _ (v l : ℕ) (e : v ≡ min 129 l) where
@@ -60,6 +62,27 @@ four_words (a ∷ b ∷ []) h = absurd (h refl)
 four_words (a ∷ b ∷ c ∷ []) h = absurd (h refl)
 four_words (a ∷ b ∷ c ∷ d ∷ vs) h = omega arith
 
+-- a prefix length as it is looked at
+prefix_by : (w : List ℕ) → (decimal_number 128 w ≡ 20 → ⊥) → prefix_in (value_by (decimal_number 128 w) (decimal_of w)) ≡ min 129 (decimal_of w)
+unfolding value_by decimal_number
+prefix_by w h = go (not (is_decimal w && eqb (digit_count w) (length w))) (ltb 128 (decimal_of w)) refl h
+  where
+    go : (a b : Bool) → ltb 128 (decimal_of w) ≡ b → (earns a 20 (earns b 21 0) ≡ 20 → ⊥) → prefix_in (value_by (earns a 20 (earns b 21 0)) (decimal_of w)) ≡ min 129 (decimal_of w)
+    go true b e k = absurd (k refl)
+    go false true e k = let l = ltb-true 128 (decimal_of w) e in omega arith
+    go false false e k = let l = ltb-false 128 (decimal_of w) e in omega arith
+
+length_ranged : (w : List ℕ) → (decimal_number 128 w ≡ 20 → ⊥) → (decimal_number 128 w ≡ 0 → ⊥) → decimal_number 128 w ≡ 21
+length_ranged w h k = go (decimal_ranges 128 w)
+  where
+    go : (decimal_number 128 w ≡ 0) ⊎ ((decimal_number 128 w ≡ 20) ⊎ (decimal_number 128 w ≡ 21)) → decimal_number 128 w ≡ 21
+    go (inl z) = absurd (k z)
+    go (inr (inl z)) = absurd (h z)
+    go (inr (inr z)) = z
+
+lived_known : (s : List ℕ) (e : ℕ) → Known (lived_number s e)
+lived_known s e = worse_known _ _ (decimal_known max_ttl (ttl_word s e)) (type_known (word_at s (type_place s e)))
+
 module _ (s : List ℕ) where
   abbrev vs : List (List ℕ)
   vs = with_ttl (words_of s)
@@ -83,94 +106,148 @@ module _ (s : List ℕ) where
       (worse (worse (decimal_number max_ttl ((front vs 1 (omega arith) ∙ t.ttl) i)) (type_number ((front vs 2 (omega arith) ∙ t.kind) i)))
       (worse (decimal_number 128 ((front vs 3 (omega arith) ∙ timed_length s vs t) i)) late)))
 
-  module _ (o : Named) (no : NameAt s 0 o) where
-    -- no owner
-    pub missed_owner : o.number ≡ 20 → worst (word_numbers us) ≡ 20
-    missed_owner h =
-        by_places ∙ ap (λ (n : ℕ). worse n (rest_owner)) (sym no.number ∙ h) ∙ worse_20 rest_owner known_owner
-      where
-        rest_owner : ℕ
-        rest_owner = worse (worse (decimal_number max_ttl (ttl_word s (word_end s 0))) (type_number (word_at s kind))) (worse (decimal_number 128 (word_at s (next s kind))) late)
+  -- what the owner, the TTL and type, and the prefix length earn; they all hide nothing worse than 20
+  abbrev owner : ℕ
+  owner = text_number (word_at s 0)
 
-        known_owner : Known rest_owner
-        known_owner = worse_known _ _ (worse_known _ _ (decimal_known max_ttl _) (type_known _)) (worse_known _ _ (decimal_known 128 _) (worse_known _ _ (address_known _) (rest_known us)))
+  -- the words in the order in which they are read, each from where the one before it ends
+  pub missed_owner : text_number (word_at s 0) ≡ 20 → worst (word_numbers us) ≡ 20
+  missed_owner h = by_places ∙ ap (λ (n : ℕ). worse n rest_owner) h ∙ worse_20 rest_owner known_owner
+    where
+      rest_owner : ℕ
+      rest_owner = worse (lived_number s (word_end s 0)) (worse (decimal_number 128 (word_at s (next s kind))) late)
 
-    module _ (ho : o.number ≡ 20 → ⊥) (v : Lived) (nv : LivedAt s o.next v) where
-      lived : LivedAt s (word_end s 0) v
-      lived = subst (λ (e : ℕ). LivedAt s e v) (no.next ho) nv
+      known_owner : Known rest_owner
+      known_owner = worse_known _ _ (lived_known s (word_end s 0)) (worse_known _ _ (decimal_known 128 _) (worse_known _ _ (address_known _) (rest_known us)))
 
-      -- no TTL and type
-      pub missed_lived : v.number ≡ 20 → worst (word_numbers us) ≡ 20
-      missed_lived h =
-          by_places
-          ∙ ap (λ (n : ℕ). worse (text_number (word_at s 0)) (worse n (worse (decimal_number 128 (word_at s (next s kind))) late))) (sym lived.number ∙ h)
-          ∙ ap (worse (text_number (word_at s 0))) (worse_20 _ (worse_known _ _ (decimal_known 128 (word_at s (next s kind))) (worse_known _ _ (address_known (word us 4)) (rest_known us))))
-          ∙ 20_worse (text_number (word_at s 0)) (name_known (word_at s 0))
+  module _ (e : ℕ) (he : e ≡ word_end s 0) where
+    -- no TTL and type
+    pub missed_lived : lived_number s e ≡ 20 → worst (word_numbers us) ≡ 20
+    missed_lived h =
+        by_places
+        ∙ ap (λ (n : ℕ). worse owner (worse n (worse (decimal_number 128 (word_at s (next s kind))) late))) (ap (lived_number s) (sym he) ∙ h)
+        ∙ ap (worse owner) (worse_20 _ (worse_known _ _ (decimal_known 128 (word_at s (next s kind))) (worse_known _ _ (address_known (word us 4)) (rest_known us))))
+        ∙ 20_worse owner (name_known (word_at s 0))
 
-      pub length_within : (v.number ≡ 20 → ⊥) → passed s v.next ≤ length s
-      length_within h = rw (passed_end s kind v.next (lived.next h)) (next_within s kind (timed s).within)
+    module _ (f : ℕ) (hf : f ≡ word_end s (type_place s e)) where
+      pub length_within : passed s f ≤ length s
+      length_within = rw (hf, he, passed_end s kind (word_end s kind) refl) (next_within s kind (timed s).within)
 
-      module _ (hv : v.number ≡ 20 → ⊥) (l : Number) (nl : NumberAt s (passed s v.next) 128 l) where
-        length_place : passed s v.next ≡ next s kind
-        length_place = passed_end s kind v.next (lived.next hv)
+      module _ (at : ℕ) (hat : at ≡ passed s f) where
+        length_place : at ≡ next s kind
+        length_place = hat ∙ ap (passed s) (hf ∙ ap (λ (x : ℕ). word_end s (type_place s x)) he) ∙ passed_end s kind (word_end s kind) refl
 
-        length_number : l.number ≡ decimal_number 128 (word_at s (next s kind))
-        length_number = nl.number ∙ ap (λ (p : ℕ). decimal_number 128 (word_at s p)) length_place
+        counted : decimal_number 128 (word_at s (next s kind)) ≡ decimal_number 128 (word_at s at)
+        counted = ap (λ (p : ℕ). decimal_number 128 (word_at s p)) (sym length_place)
 
         -- no prefix length
-        pub missed_length : l.number ≡ 20 → worst (word_numbers us) ≡ 20
+        pub missed_length : decimal_number 128 (word_at s at) ≡ 20 → worst (word_numbers us) ≡ 20
         missed_length h =
-            let b = worse (decimal_number max_ttl (ttl_word s (word_end s 0))) (type_number (word_at s kind)) in
             by_places
-            ∙ ap (λ (n : ℕ). worse (text_number (word_at s 0)) (worse b (worse n late))) (sym length_number ∙ h)
-            ∙ ap (λ (n : ℕ). worse (text_number (word_at s 0)) (worse b n)) (worse_20 late (worse_known _ _ (address_known (word us 4)) (rest_known us)))
-            ∙ ap (worse (text_number (word_at s 0))) (20_worse b (worse_known _ _ (decimal_known max_ttl _) (type_known _)))
-            ∙ 20_worse (text_number (word_at s 0)) (name_known (word_at s 0))
+            ∙ ap (λ (n : ℕ). worse owner (worse (lived_number s (word_end s 0)) (worse n late))) (counted ∙ h)
+            ∙ ap (λ (n : ℕ). worse owner (worse (lived_number s (word_end s 0)) n)) (worse_20 late (worse_known _ _ (address_known (word us 4)) (rest_known us)))
+            ∙ ap (worse owner) (20_worse (lived_number s (word_end s 0)) (lived_known s (word_end s 0)))
+            ∙ 20_worse owner (name_known (word_at s 0))
 
-        pub rest_within : (l.number ≡ 20 → ⊥) → l.next ≤ length s
-        rest_within h = rw (nl.next h) (end_within s (passed s v.next) (length_within hv))
+        module _ (g : ℕ) (hg : g ≡ word_end s at) (nl : decimal_number 128 (word_at s at) ≡ 20 → ⊥) (prefix : Result ℕ Refusal)
+            (pl : prefix ≡ value_by (decimal_number 128 (word_at s at)) (decimal_of (word_at s at))) where
+          pub rest_within : at ≤ length s → g ≤ length s
+          rest_within h = rw hg (end_within s at h)
 
-        module _ (hl : l.number ≡ 20 → ⊥) (r : Rest) (nr : RestAt s l.next l.value r) where
-          length_is : length_in vs ≡ decimal_of (word_at s (next s kind))
+          length_is : length_in vs ≡ decimal_of (word_at s at)
           unfolding length_in
-          length_is = ap decimal_of (timed_length s vs (timed s))
+          length_is = ap decimal_of (timed_length s vs (timed s)) ∙ ap (λ (p : ℕ). decimal_of (word_at s p)) (sym length_place)
 
-          value_is : l.value ≡ min 129 (length_in vs)
-          value_is = nl.value hl ∙ ap (λ (p : ℕ). min 129 (decimal_of (word_at s p))) length_place ∙ ap (min 129) (sym length_is)
+          -- the prefix length as it is looked at
+          value_is : prefix_in prefix ≡ min 129 (length_in vs)
+          value_is = ap prefix_in pl ∙ prefix_by (word_at s at) nl ∙ ap (min 129) (sym length_is)
 
-          rest_is : tail_from s l.next ≡ drop 4 vs
-          rest_is = ap (tail_from s) (nl.next hl ∙ ap (word_end s) length_place) ∙ sym (timed_rest s vs (timed s))
+          rest_is : tail_from s g ≡ drop 4 vs
+          rest_is = ap (tail_from s) (hg ∙ ap (word_end s) length_place) ∙ sym (timed_rest s vs (timed s))
 
           closing : Ended vs
-          closing = ended vs (four_words vs (λ z. hl (length_number ∙ sym (ap (decimal_number 128) (timed_length s vs (timed s))) ∙ z)))
+          closing = ended vs (four_words vs (λ z. nl (sym counted ∙ sym (ap (decimal_number 128) (timed_length s vs (timed s))) ∙ z)))
 
-          late_is : r.number ≡ late
+          -- what the words after it are, and what they earn
+          abbrev last : ℕ
+          last = late_number (prefix_in prefix) (full_of (prefix_in prefix) (tail_from s g))
+
+          late_is : last ≡ late
           late_is =
-              nr.number ∙ ap (λ (ts : List (List ℕ)). late_number l.value (full_of l.value ts)) rest_is ∙ capped l.value (length_in vs) value_is (drop 4 vs)
+              ap (λ (ts : List (List ℕ)). late_number (prefix_in prefix) (full_of (prefix_in prefix) ts)) rest_is ∙ capped (prefix_in prefix) (length_in vs) value_is (drop 4 vs)
               ∙ sym (λ i. worse (address_number (closing.address i)) (closing.number i))
 
           -- the number of a line that was read to its end
-          pub all_numbers : worst (word_numbers us) ≡ worse o.number (worse v.number (worse l.number r.number))
-          all_numbers = by_places ∙ sym (λ i. worse (no.number i) (worse (lived.number i) (worse (length_number i) (late_is i))))
+          all_numbers : worst (word_numbers us) ≡ worse owner (worse (lived_number s e) (worse (decimal_number 128 (word_at s at)) last))
+          all_numbers = by_places ∙ (λ i. worse owner (worse (lived_number s (sym he i)) (worse (counted i) (sym late_is i))))
 
-          -- and its fields
-          pub all_fields : worst (word_numbers us) ≡ 0
-              → ◌≡◌ {A = Fields} (record { prefix = l.value; address = join_of (blank 16) r.address l.value; owner = o.name; target = r.target; ttl = v.ttl }) (fields_in us)
-          unfolding fields_in length_in
-          all_fields z =
-              let w = worse_zero o.number (worse v.number (worse l.number r.number)) (sym all_numbers ∙ z) in
-              let x = worse_zero v.number (worse l.number r.number) w.1 in
-              let y = worse_zero l.number r.number x.1 in
-              let b = worse_zero (decimal_number max_ttl (ttl_word s (word_end s 0))) (type_number (word_at s kind)) (sym lived.number ∙ x.0) in
-              let f : word us 3 ≡ word_at s (next s kind) = front vs 3 (omega arith) ∙ timed_length s vs (timed s) in
-              let g : word us 1 ≡ ttl_word s (word_end s 0) = front vs 1 (omega arith) ∙ (timed s).ttl in
-              let low = decimal_low 128 (word_at s (next s kind)) (sym length_number ∙ y.0) in
-              let live = decimal_low max_ttl (ttl_word s (word_end s 0)) b.0 in
-              let li : length_in vs ≡ decimal_of (word_at s (next s kind)) = length_is in
-              let p : l.value ≡ decimal_of (word us 3) = (let k : l.value ≡ decimal_of (word_at s (next s kind)) = (let q = value_is in omega arith) in k) ∙ ap decimal_of (sym f) in
-              let t : v.ttl ≡ decimal_of (word us 1) = (let q = lived.ttl hv in let k : v.ttl ≡ decimal_of (ttl_word s (word_end s 0)) = omega arith in k) ∙ ap decimal_of (sym g) in
-              let fu : full_of l.value (tail_from s l.next) ≡ full_of (length_in vs) (drop 4 vs) = ap (full_of l.value) rest_is ∙ capped_full l.value (length_in vs) value_is (drop 4 vs) in
-              let a : r.address ≡ read_address (word us 4) = nr.address y.1 ∙ ap (λ (ts : List (List ℕ)). read_address (word ts 0)) fu ∙ ap read_address (sym closing.address) in
-              let d : r.target ≡ name_held (word us 5) = nr.target y.1 ∙ ap (λ (ts : List (List ℕ)). name_held (word ts 1)) fu ∙ ap name_held (sym closing.target) in
-              let n : o.name ≡ name_held (word us 0) = no.name ho ∙ ap name_held (sym (front vs 0 (omega arith) ∙ (timed s).owner)) in
-              λ i. record { prefix = p i; address = join_of (blank 16) (a i) (p i); owner = n i; target = d i; ttl = t i }
+          -- no address or target
+          pub missed_rest : last ≡ 20 → worst (word_numbers us) ≡ 20
+          missed_rest h =
+              all_numbers
+              ∙ ap (λ (n : ℕ). worse owner (worse (lived_number s e) (worse (decimal_number 128 (word_at s at)) n))) h
+              ∙ ap (λ (n : ℕ). worse owner (worse (lived_number s e) n)) (20_worse (decimal_number 128 (word_at s at)) (decimal_known 128 (word_at s at)))
+              ∙ ap (worse owner) (20_worse (lived_number s e) (lived_known s e)) ∙ 20_worse owner (name_known (word_at s 0))
+
+          -- words that all have their form
+          module _ (no : owner ≡ 20 → ⊥) (nv : lived_number s e ≡ 20 → ⊥) (nr : last ≡ 20 → ⊥) where
+            fo : Formed owner
+            fo = formed owner (name_known (word_at s 0)) no
+
+            fl : Formed (decimal_number 128 (word_at s at))
+            fl = formed (decimal_number 128 (word_at s at)) (decimal_known 128 (word_at s at)) nl
+
+            fr : Formed last
+            fr = formed last (late_known (prefix_in prefix) (full_of (prefix_in prefix) (tail_from s g))) nr
+
+            -- a TTL out of range
+            pub over_lived : (lived_number s e ≡ 0 → ⊥) → worst (word_numbers us) ≡ lived_number s e
+            over_lived h =
+                let k = lived_ranged s e nv h in
+                all_numbers ∙ ap (λ (n : ℕ). worse owner (worse n (worse (decimal_number 128 (word_at s at)) last))) k
+                ∙ ap (worse owner) (worse_21 _ (formed_worse _ _ fl fr)) ∙ 21_worse owner fo ∙ sym k
+
+            module _ (zv : lived_number s e ≡ 0) where
+              from_length : worst (word_numbers us) ≡ worse owner (worse (decimal_number 128 (word_at s at)) last)
+              from_length = all_numbers ∙ ap (worse owner) (worse_left (lived_number s e) (worse (decimal_number 128 (word_at s at)) last) zv)
+
+              -- a prefix length out of range
+              pub over_length : (decimal_number 128 (word_at s at) ≡ 0 → ⊥) → worst (word_numbers us) ≡ decimal_number 128 (word_at s at)
+              over_length h =
+                  let k = length_ranged (word_at s at) nl h in
+                  from_length ∙ ap (λ (n : ℕ). worse owner (worse n last)) k ∙ ap (worse owner) (worse_21 last fr) ∙ 21_worse owner fo ∙ sym k
+
+              module _ (zl : decimal_number 128 (word_at s at) ≡ 0) where
+                from_names : worst (word_numbers us) ≡ worse owner last
+                from_names = from_length ∙ ap (worse owner) (worse_left (decimal_number 128 (word_at s at)) last zl)
+
+                -- a number out of range in the target
+                pub over_target : last ≡ 21 → worst (word_numbers us) ≡ 21
+                over_target h = from_names ∙ ap (worse owner) h ∙ 21_worse owner fo
+
+                -- an owner that is none, and then a target
+                pub none_owner : (owner ≡ 0 → ⊥) → (last ≡ 21 → ⊥) → worst (word_numbers us) ≡ owner
+                none_owner h k = from_names ∙ worse_kept owner last fo fr h k
+
+                pub none_target : owner ≡ 0 → worst (word_numbers us) ≡ last
+                none_target h = from_names ∙ worse_left owner last h
+
+                -- all of them, and the fields
+                module _ (zo : owner ≡ 0) (zr : last ≡ 0) where
+                  pub all_zero : worst (word_numbers us) ≡ 0
+                  all_zero = none_target zo ∙ zr
+
+                  pub all_fields : (l t : ℕ) (a : List ℕ) (o d : Name) → decimal_of (word_at s at) ≡ l → decimal_of (ttl_word s e) ≡ t
+                      → a ≡ read_address (word (full_of (prefix_in prefix) (tail_from s g)) 0) → name_held (word_at s 0) ≡ o → name_held (word (full_of (prefix_in prefix) (tail_from s g)) 1) ≡ d
+                      → ◌≡◌ {A = Fields} (record { prefix = l; address = join_of (blank 16) a l; owner = o; target = d; ttl = t }) (fields_in us)
+                  unfolding fields_in length_in
+                  all_fields l t a o d hl ht ha ho hd =
+                      let f3 : word us 3 ≡ word_at s at = front vs 3 (omega arith) ∙ timed_length s vs (timed s) ∙ ap (word_at s) (sym length_place) in
+                      let f1 : word us 1 ≡ ttl_word s e = front vs 1 (omega arith) ∙ (timed s).ttl ∙ ap (ttl_word s) (sym he) in
+                      let fu : full_of (prefix_in prefix) (tail_from s g) ≡ full_of (length_in vs) (drop 4 vs) = ap (full_of (prefix_in prefix)) rest_is ∙ capped_full (prefix_in prefix) (length_in vs) value_is (drop 4 vs) in
+                      let p : l ≡ decimal_of (word us 3) = sym hl ∙ ap decimal_of (sym f3) in
+                      let q : t ≡ decimal_of (word us 1) = sym ht ∙ ap decimal_of (sym f1) in
+                      let x : a ≡ read_address (word us 4) = ha ∙ ap (λ (ts : List (List ℕ)). read_address (word ts 0)) fu ∙ ap read_address (sym closing.address) in
+                      let y : d ≡ name_held (word us 5) = sym hd ∙ ap (λ (ts : List (List ℕ)). name_held (word ts 1)) fu ∙ ap name_held (sym closing.target) in
+                      let n : o ≡ name_held (word us 0) = sym ho ∙ ap name_held (sym (front vs 0 (omega arith) ∙ (timed s).owner)) in
+                      λ i. record { prefix = p i; address = join_of (blank 16) (x i) (p i); owner = n i; target = y i; ttl = q i }

@@ -4,14 +4,18 @@ use mathlib.Core.Path.{◌≡◌, refl, ap, sym, ◌∙◌}
 use mathlib.Core.Bool.{Bool, true, false, not, ◌&&◌, ◌||◌}
 use mathlib.Core.List.{List, [], ◌∷◌}
 use lib.Dec.{ltb, eqb}
-use lib.ListN.{length, get_or, take, drop, length-drop}
+use lib.ListN.{length, get_or, take, drop, length-take, length-drop}
 use lib.Seq.{length-take-le, get_or-take, get_or-drop}
 use native.Mathlib.Omega.{arith}
-use borrow.Author.Tests.{eq-eqb, ne_eqb, lt-ltb, le-ltb, eqb-true, eqb-false}
+use borrow.Author.Tests.{eq-eqb, ne_eqb, lt-ltb, le-ltb, ltb-true, ltb-false, eqb-true, eqb-false}
+use Rattle.std.specs.Prelude.{Result, ok_or}
+use Rattle.std.specs.List.{starts_with}
 use Rattle.octets.specs.Octets.{same_by, same}
-use Rattle.octets.proofs.SameLaws.{same_unlike, same_eq}
+use Rattle.octets.specs.declared.Refusal.{Refusal}
+use Rattle.octets.specs.declared.Refusal.TheVariants.{Form}
+use Rattle.octets.proofs.SameLaws.{same_eq, same_refl, by_pointwise}
 use Rattle.text.specs.Digits.{digit_in, is_digit, leading}
-use Rattle.text.specs.Decimal.{digit_count, decimal_from, decimal_of, is_decimal}
+use Rattle.text.specs.Decimal.{digit_count, decimal_from, decimal_of, is_decimal, decimal_at}
 use Rattle.text.proofs.PlaceLaws.{from_place}
 use Rattle.text.proofs.DecimalLaws.{value_figure, value_other, value_none, form_none}
 use Rattle.octets.proofs.BoolLaws.{and_false}
@@ -20,23 +24,18 @@ use Rattle.line.specs.Words.{is_blank_octet}
 use Rattle.line.specs.Writing.{a6_word}
 use Rattle.line.specs.Reading.{decimal_number, address_number}
 use Rattle.text.specs.AddressText.{is_address, read_address, may_stand, address_count}
-use Rattle.text.specs.Reading.{whole_of, address_part}
+use Rattle.text.specs.Reading.{whole_of, address_part, address_at}
 use Rattle.nametext.proofs.CharacterLaws.{Every}
 use Rattle.line.specs.Walk.{not_blank, word_at, word_end, worse}
-use Rattle.line.specs.Walked.{NumberAt, AddressAt}
-use Rattle.line.specs.declared.reading.Address.{Address}
+use Rattle.line.specs.Walked.{value_by, Ended, WordAt}
+use Rattle.line.specs.declared.reading.Word.{Word}
 use Rattle.line.proofs.WordLaws.{not_blank_lem, address_octets}
-use Rattle.line.specs.declared.reading.Number.{Number}
+use Rattle.text.specs.declared.numbers.Decimal.{Decimal}
+use Rattle.text.specs.declared.reading.Found.{Found}
+use Rattle.line.proofs.OrderLaws.{decimal_known, address_known}
+use Rattle.line.proofs.ValueLaws.{value_done, value_refused, word_ended}
 use Rattle.text.proofs.LeadingLaws.{leading_more, leading_few, lead_turn, lead_stop, lead_end, lead_split, lead_take}
 use Rattle.line.proofs.WalkLaws.{blank_not, other_not, word_stops, word_fails}
-
-pub blank_space : (x : ℕ) → x ≡ 32 → is_blank_octet x ≡ true
-unfolding is_blank_octet
-blank_space x e = rw (eq-eqb x 32 e)
-
-pub blank_other : (x : ℕ) → (x ≡ 32 → ⊥) → is_blank_octet x ≡ eqb x 9
-unfolding is_blank_octet
-blank_other x e = rw (ne_eqb x 32 e)
 
 pub worse_left : (a b : ℕ) → a ≡ 0 → worse a b ≡ b
 unfolding worse
@@ -66,43 +65,6 @@ pub word_length : (s : List ℕ) (at : ℕ) → length (word_at s at) ≡ leadin
 unfolding word_at
 word_length s at = length-take-le (leading not_blank (drop at s)) (drop at s) (leading_few not_blank (drop at s))
 
--- the word A6
-pub type_short : (s : List ℕ) (at : ℕ) → at ≤ length s → length s < at + 2 → same (word_at s at) a6_word ≡ false
-type_short s at h l =
-    let n = word_length s at in
-    let f = leading_few not_blank (drop at s) in
-    let d = length-drop at s in
-    same_unlike (word_at s at) a6_word (λ z. omega arith)
-
-word_first : (s : List ℕ) (at : ℕ) → at < length s → 0 < leading not_blank (drop at s) → word_at s at ≡ get_or s at 0 ∷ take (leading not_blank (drop at s) - 1) (drop (at + 1) s)
-unfolding word_at
-word_first s at h p = go (leading not_blank (drop at s)) p
-  where
-    go : (k : ℕ) → 0 < k → take k (drop at s) ≡ get_or s at 0 ∷ take (k - 1) (drop (at + 1) s)
-    go zero q = let z : ⊥ = omega arith in absurd z
-    go (suc k) q = let e : k ≡ suc k - 1 = omega arith in ap (take (suc k)) (from_place s at h) ∙ ap (λ (n : ℕ). get_or s at 0 ∷ take n (drop (at + 1) s)) e
-
-empty_unlike : (xs : List ℕ) → length xs ≡ 0 → same xs a6_word ≡ false
-empty_unlike xs e = same_unlike xs a6_word (λ z. omega arith)
-
-pub type_first : (s : List ℕ) (at : ℕ) → at < length s → (get_or s at 0 ≡ 65 → ⊥) → same (word_at s at) a6_word ≡ false
-type_first s at h e = go (same (word_at s at) a6_word) refl
-  where
-    go : (b : Bool) → same (word_at s at) a6_word ≡ b → same (word_at s at) a6_word ≡ false
-    go false q = q
-    go true q =
-        let w : word_at s at ≡ a6_word = same_eq (word_at s at) a6_word q in
-        let n : length (word_at s at) ≡ 2 = ap length w in
-        let m = word_length s at in
-        let f : get_or (word_at s at) 0 0 ≡ get_or s at 0 = ap (λ (xs : List ℕ). get_or xs 0 0) (word_first s at h (omega arith)) in
-        let g : get_or (word_at s at) 0 0 ≡ 65 = ap (λ (xs : List ℕ). get_or xs 0 0) w in
-        absurd (e (sym f ∙ g))
-
--- the second octet of a word
-second : (s : List ℕ) (at : ℕ) → at + 2 ≤ length s → 2 ≤ leading not_blank (drop at s) → get_or (word_at s at) 1 0 ≡ get_or s (at + 1) 0
-unfolding word_at
-second s at h l = get_or-take (leading not_blank (drop at s)) (drop at s) 1 0 (omega arith) ∙ get_or-drop at s 1 0
-
 -- only no octets are like none
 none_same : (k : ℕ) (xs : List ℕ) → k ≤ length xs → same (take k xs) [] ≡ eqb k 0
 unfolding same_by
@@ -119,19 +81,6 @@ word_two s at h a b =
     let f : at + 1 + 1 ≡ at + 2 = omega arith in
     let d : drop at s ≡ get_or s at 0 ∷ get_or s (at + 1) 0 ∷ drop (at + 2) s = from_place s at (omega arith) ∙ ap (λ (xs : List ℕ). get_or s at 0 ∷ xs) (from_place s (at + 1) (omega arith) ∙ ap (λ (n : ℕ). get_or s (at + 1) 0 ∷ drop n s) f) in
     (λ i. take (k i) (d i)) ∙ ap (λ (n : ℕ). get_or s at 0 ∷ get_or s (at + 1) 0 ∷ take (leading not_blank (drop n s)) (drop (at + 2) s)) f
-
-pub type_second : (s : List ℕ) (at : ℕ) → at + 2 ≤ length s → get_or s at 0 ≡ 65 → (get_or s (at + 1) 0 ≡ 54 → ⊥) → same (word_at s at) a6_word ≡ false
-type_second s at h a b = go (same (word_at s at) a6_word) refl
-  where
-    go : (t : Bool) → same (word_at s at) a6_word ≡ t → same (word_at s at) a6_word ≡ false
-    go false q = q
-    go true q =
-        let w : word_at s at ≡ a6_word = same_eq (word_at s at) a6_word q in
-        let n : length (word_at s at) ≡ 2 = ap length w in
-        let m = word_length s at in
-        let f : get_or (word_at s at) 1 0 ≡ get_or s (at + 1) 0 = second s at (omega arith) (omega arith) in
-        let g : get_or (word_at s at) 1 0 ≡ 54 = ap (λ (xs : List ℕ). get_or xs 1 0) w in
-        absurd (b (sym f ∙ g))
 
 plain_octet : (x y : ℕ) → x ≡ y → not_blank y ≡ true → not_blank x ≡ true
 plain_octet x y e h = ap not_blank e ∙ h
@@ -219,19 +168,58 @@ decimal_is s at bound next e h f =
     let d = word_digits s at in
     rw (eq-eqb (digit_count (word_at s at)) (length (word_at s at)) (omega arith), word_decimal s at, f, word_value s at)
 
-pub decimal_over : (s : List ℕ) (at bound next v : ℕ) → next ≡ at + digit_count (drop at s) → leading not_blank (drop next s) ≡ 0 → is_decimal (drop at s) ≡ true
-    → v ≡ min (bound + 1) (decimal_of (drop at s)) → bound < v → decimal_number bound (word_at s at) ≡ 21
-decimal_over s at bound next v e h f g l = decimal_is s at bound next e h f ∙ (rw (lt-ltb bound (decimal_of (drop at s)) (omega arith)))
+-- what is read of a decimal
+lesser_over : (bound d : ℕ) → ltb bound (min (bound + 1) d) ≡ ltb bound d
+lesser_over bound d = go (ltb bound d) refl
+  where
+    go : (b : Bool) → ltb bound d ≡ b → ltb bound (min (bound + 1) d) ≡ ltb bound d
+    go true e = let k = ltb-true bound d e in lt-ltb bound (min (bound + 1) d) (omega arith) ∙ sym e
+    go false e = let k = ltb-false bound d e in le-ltb bound (min (bound + 1) d) (omega arith) ∙ sym e
 
-pub decimal_within : (s : List ℕ) (at bound next v : ℕ) → next ≡ at + digit_count (drop at s) → leading not_blank (drop next s) ≡ 0 → is_decimal (drop at s) ≡ true
-    → v ≡ min (bound + 1) (decimal_of (drop at s)) → v ≤ bound → decimal_number bound (word_at s at) ≡ 0
-decimal_within s at bound next v e h f g l = decimal_is s at bound next e h f ∙ (rw (le-ltb bound (decimal_of (drop at s)) (omega arith)))
+ranged_by : (bound d : ℕ) → value_by (earns (ltb bound d) 21 0) (min (bound + 1) d) ≡ value_by (earns (ltb bound d) 21 0) d
+unfolding value_by
+ranged_by bound d = go (ltb bound d) refl
+  where
+    go : (b : Bool) → ltb bound d ≡ b → value_by (earns (ltb bound d) 21 0) (min (bound + 1) d) ≡ value_by (earns (ltb bound d) 21 0) d
+    go true e = rw e
+    go false e = let k = ltb-false bound d e in let m : min (bound + 1) d ≡ d = omega arith in rw m
 
-pub decimal_value : (s : List ℕ) (at bound v : ℕ) → v ≡ min (bound + 1) (decimal_of (drop at s)) → v ≡ min (bound + 1) (decimal_of (word_at s at))
-decimal_value s at bound v g = g ∙ ap (min (bound + 1)) (sym (word_value s at))
+module _ (s : List ℕ) (at bound : ℕ) (d : Decimal) (f : d ≡ decimal_at s at bound) where
+  figures : decimal_of (drop at s) ≡ decimal_of (word_at s at)
+  figures = sym (word_value s at)
 
-pub number_not : (s : List ℕ) (at bound : ℕ) (r : Number) → r.number ≡ 20 → decimal_number bound (word_at s at) ≡ 20 → NumberAt s at bound r
-number_not s at bound r e f = record { number = e ∙ sym f; value = λ k. absurd (k e); next = λ k. absurd (k e) }
+  pub decimal_next : d.next ≡ at + digit_count (drop at s)
+  unfolding decimal_at
+  decimal_next = ap (λ (r : Decimal). r.next) f
+
+  decimal_value : leading not_blank (drop d.next s) ≡ 0
+      → value_by (earns (not d.formed) 20 (earns (ltb bound d.value) 21 0)) d.value ≡ value_by (decimal_number bound (word_at s at)) (decimal_of (word_at s at))
+  unfolding decimal_at value_by
+  decimal_value e = go (is_decimal (drop at s)) refl
+    where
+      formed : d.formed ≡ is_decimal (drop at s)
+      formed = ap (λ (r : Decimal). r.formed) f
+
+      value : d.value ≡ min (bound + 1) (decimal_of (drop at s))
+      value = ap (λ (r : Decimal). r.value) f
+
+      go : (b : Bool) → is_decimal (drop at s) ≡ b → value_by (earns (not d.formed) 20 (earns (ltb bound d.value) 21 0)) d.value ≡ value_by (decimal_number bound (word_at s at)) (decimal_of (word_at s at))
+      go true t =
+          (λ i. value_by (earns (not ((formed ∙ t) i)) 20 (earns (ltb bound (value i)) 21 0)) (value i))
+          ∙ ap (λ b. value_by (earns b 21 0) (min (bound + 1) (decimal_of (drop at s)))) (lesser_over bound (decimal_of (drop at s)))
+          ∙ ranged_by bound (decimal_of (drop at s))
+          ∙ (λ i. value_by (sym (decimal_is s at bound d.next decimal_next e t) i) (figures i))
+      go false t =
+          (λ i. value_by (earns (not ((formed ∙ t) i)) 20 (earns (ltb bound d.value) 21 0)) d.value)
+          ∙ ap (λ (n : ℕ). value_by n (decimal_of (word_at s at))) (sym (decimal_unformed s at bound t))
+
+  pub decimal_ended : (value : Result ℕ Refusal) → value ≡ value_by (earns (not d.formed) 20 (earns (ltb bound d.value) 21 0)) d.value
+      → (r : Result (Word ℕ) Refusal) → Ended value (eqb (leading not_blank (drop d.next s)) 0) d.next r
+      → WordAt (decimal_number bound (word_at s at)) (decimal_of (word_at s at)) (word_end s at) r
+  decimal_ended value v =
+      word_ended (decimal_number bound (word_at s at)) (decimal_of (word_at s at)) (word_end s at) (decimal_known bound (word_at s at)) value _ d.next
+      (λ t. let e = eqb-true (leading not_blank (drop d.next s)) 0 t in (v ∙ decimal_value e, decimal_end s at d.next decimal_next e))
+      (λ t. decimal_inside s at bound d.next decimal_next (eqb-false (leading not_blank (drop d.next s)) 0 t))
 
 -- nor are the octets of an address
 stand_solid : (x : ℕ) → may_stand x ≡ true → not_blank x ≡ true
@@ -242,10 +230,6 @@ leading_whole : (t : ℕ → Bool) (w : List ℕ) → Every t w → leading t w 
 unfolding leading
 leading_whole t [] h = refl
 leading_whole t (x ∷ w) h = leading_more t x w h.0 ∙ ap suc (leading_whole t w h.1)
-
-pub address_not : (s : List ℕ) (at : ℕ) (r : Address) → r.number ≡ 20 → is_address (word_at s at) ≡ false → AddressAt s at r
-unfolding address_number
-address_not s at r e f = record { number = e ∙ sym (rw f); value = λ k. absurd (k e); next = λ k. absurd (k e) }
 
 -- a word with an octet after those of an address is none
 pub address_inside : (s : List ℕ) (at next : ℕ) → next ≡ at + address_count (drop at s) → (leading not_blank (drop next s) ≡ 0 → ⊥) → is_address (word_at s at) ≡ false
@@ -278,15 +262,58 @@ address_unformed s at h = go (eqb (leading not_blank (drop (at + address_count (
     go true e = sym (ap is_address (address_whole s at next refl (eqb-true (leading not_blank (drop next s)) 0 e)).0) ∙ h
     go false e = address_inside s at next refl (eqb-false (leading not_blank (drop next s)) 0 e)
 
--- what an address that is found tells
-pub whole_formed : (text : List ℕ) → (whole_of text).formed ≡ is_address text
-unfolding whole_of
-whole_formed text = go (is_address text) refl
+-- what is read of an address
+whole_by : (text : List ℕ) → ok_or (whole_of text) Form ≡ value_by (address_number text) (read_address text)
+unfolding whole_of address_number
+whole_by text = go (is_address text) refl
   where
-    go : (b : Bool) → is_address text ≡ b → (whole_of text).formed ≡ is_address text
-    go true e = rw (whole_of, e)
-    go false e = rw (whole_of, e)
+    go : (b : Bool) → is_address text ≡ b → ok_or (whole_of text) Form ≡ value_by (address_number text) (read_address text)
+    go true e = rw (whole_of, address_number, e) (value_done 0 (read_address text) refl)
+    go false e = rw (whole_of, address_number, e) (value_refused 20 (read_address text) Form refl)
 
-pub whole_address : (text : List ℕ) → is_address text ≡ true → (whole_of text).address ≡ read_address text
-unfolding whole_of
-whole_address text e = rw (whole_of, e)
+module _ (s : List ℕ) (at : ℕ) (d : Found) (f : d ≡ address_at s at) where
+  address_next : d.next ≡ at + address_count (drop at s)
+  unfolding address_at
+  address_next = ap (λ (r : Found). r.next) f
+
+  address_value : ok_or d.address Form ≡ value_by (address_number (address_part s at)) (read_address (address_part s at))
+  unfolding address_at
+  address_value = ap (λ (r : Found). ok_or r.address Form) f ∙ whole_by (address_part s at)
+
+  pub address_ended : (value : Result (List ℕ) Refusal) → value ≡ ok_or d.address Form
+      → (r : Result (Word (List ℕ)) Refusal) → Ended value (eqb (leading not_blank (drop d.next s)) 0) d.next r
+      → WordAt (address_number (word_at s at)) (read_address (word_at s at)) (word_end s at) r
+  unfolding address_number
+  address_ended value v =
+      word_ended (address_number (word_at s at)) (read_address (word_at s at)) (word_end s at) (address_known (word_at s at)) value _ d.next
+      (λ t.
+      let w = address_whole s at d.next address_next (eqb-true (leading not_blank (drop d.next s)) 0 t) in
+      (v ∙ address_value ∙ ap (λ (x : List ℕ). value_by (address_number x) (read_address x)) w.0, w.1))
+      (λ t. rw (address_inside s at d.next address_next (eqb-false (leading not_blank (drop d.next s)) 0 t)))
+
+-- the word A6
+begins_same : (xs : List ℕ) → starts_with eqb xs a6_word ≡ same a6_word (take 2 xs)
+begins_same xs = by_pointwise eqb a6_word (take 2 xs)
+
+pub type_begins : (s : List ℕ) (at : ℕ) → starts_with eqb (drop at s) a6_word ≡ true → (at + 2 ≤ length s) × (get_or s at 0 ≡ 65) × (get_or s (at + 1) 0 ≡ 54)
+type_begins s at h =
+    let e : a6_word ≡ take 2 (drop at s) = same_eq a6_word (take 2 (drop at s)) (sym (begins_same (drop at s)) ∙ h) in
+    let n : 2 ≡ length (take 2 (drop at s)) = ap length e in
+    let z : at ≡ at + 0 = omega arith in (
+      omega (arith, n, length-take 2 (drop at s), length-drop at s),
+      ap (λ (i : ℕ). get_or s i 0) z ∙ sym (get_or-take 2 (drop at s) 0 0 (omega arith) ∙ get_or-drop at s 0 0) ∙ ap (λ (xs : List ℕ). get_or xs 0 0) (sym e),
+      sym (get_or-take 2 (drop at s) 1 0 (omega arith) ∙ get_or-drop at s 1 0) ∙ ap (λ (xs : List ℕ). get_or xs 1 0) (sym e),
+    )
+
+pub type_other : (s : List ℕ) (at : ℕ) → starts_with eqb (drop at s) a6_word ≡ false → same (word_at s at) a6_word ≡ false
+unfolding word_at
+type_other s at h = go (same (word_at s at) a6_word) refl
+  where
+    go : (b : Bool) → same (word_at s at) a6_word ≡ b → same (word_at s at) a6_word ≡ false
+    go false q = q
+    go true q =
+        let w : word_at s at ≡ a6_word = same_eq (word_at s at) a6_word q in
+        let k : leading not_blank (drop at s) ≡ 2 = sym (word_length s at) ∙ ap length w in
+        let t : take 2 (drop at s) ≡ a6_word = ap (λ (n : ℕ). take n (drop at s)) (sym k) ∙ w in
+        let z : true ≡ false = sym (same_refl a6_word) ∙ ap (same a6_word) (sym t) ∙ sym (begins_same (drop at s)) ∙ h in
+        cc

@@ -3,7 +3,7 @@ use Prim.Native.Nat.{ℕ, zero, suc, min}
 use mathlib.Core.Path.{◌≡◌, refl, ap, sym, ◌∙◌, subst}
 use mathlib.Core.Bool.{Bool, true, false, ◌||◌}
 use mathlib.Core.List.{List, [], ◌∷◌, ◌++◌}
-use mathlib.Core.Logic.{⊎_elim}
+use mathlib.Core.Logic.{◌⊎◌, inl, inr, ⊎_elim}
 use lib.Dec.{eqb}
 use native.Mathlib.Omega.{arith}
 use borrow.Author.Tests.{eqb-true, eqb-false}
@@ -89,3 +89,42 @@ worse_zero a b h = go (eqb a 0) refl (eqb b 0) refl
         let m : min a b ≡ 0 = sym (worse_both a b p q) ∙ h in
         let z : ⊥ = lesser_none a b p q m in
         absurd z
+
+-- the numbers of words that have their form
+abbrev pub Formed : ℕ → Type 0
+Formed n = (n ≡ 0) ⊎ ((n ≡ 21) ⊎ (n ≡ 22))
+
+pub formed : (n : ℕ) → Known n → (n ≡ 20 → ⊥) → Formed n
+formed n k h = ⊎_elim (λ z. inl z) (⊎_elim (λ z. absurd (h z)) (λ z. inr z)) k
+
+-- 21 hides 22
+pub worse_21 : (n : ℕ) → Formed n → worse 21 n ≡ 21
+unfolding worse
+worse_21 n = ⊎_elim (λ e. ap (worse 21) e) (⊎_elim (λ e. ap (worse 21) e) (λ e. ap (worse 21) e))
+
+pub 21_worse : (n : ℕ) → Formed n → worse n 21 ≡ 21
+unfolding worse
+21_worse n = ⊎_elim (λ e. ap (λ (m : ℕ). worse m 21) e) (⊎_elim (λ e. ap (λ (m : ℕ). worse m 21) e) (λ e. ap (λ (m : ℕ). worse m 21) e))
+
+pub formed_worse : (a b : ℕ) → Formed a → Formed b → Formed (worse a b)
+unfolding worse
+formed_worse a b h k = go h k
+  where
+    go : Formed a → Formed b → Formed (worse a b)
+    go (inl x) k = rw x k
+    go (inr (inl x)) k = inr (inl (ap (λ (m : ℕ). worse m b) x ∙ worse_21 b k))
+    go (inr (inr x)) (inl y) = rw (x, y) (inr (inr refl))
+    go (inr (inr x)) (inr (inl y)) = rw (x, y) (inr (inl refl))
+    go (inr (inr x)) (inr (inr y)) = rw (x, y) (inr (inr refl))
+
+-- a number that is not 0 hides 22
+pub worse_kept : (a b : ℕ) → Formed a → Formed b → (a ≡ 0 → ⊥) → (b ≡ 21 → ⊥) → worse a b ≡ a
+unfolding worse
+worse_kept a b h k n m = go h k
+  where
+    go : Formed a → Formed b → worse a b ≡ a
+    go (inl x) k = absurd (n x)
+    go (inr (inl x)) k = rw x (worse_21 b k)
+    go (inr (inr x)) (inl y) = rw (x, y)
+    go (inr (inr x)) (inr (inl y)) = absurd (m y)
+    go (inr (inr x)) (inr (inr y)) = rw (x, y)

@@ -5,7 +5,7 @@ use mathlib.Core.Bool.{true, false}
 use mathlib.Core.List.{List, [], ◌∷◌}
 use lib.Dec.{eqb}
 use lib.ListN.{length, take, set}
-use lib.Seq.{take-append_seam}
+use lib.Seq.{take-append_seam, drop-drop}
 use native.Mathlib.Omega.{arith}
 use borrow.Author.Tests.{eq-eqb, ne_eqb}
 use Rattle.octets.specs.Octets.{blank}
@@ -18,7 +18,8 @@ use Rattle.names.proofs.StandardLaws.{in_standard}
 use Rattle.plan.specs.Layout.{prefix_of, owner_of, target_of}
 use Rattle.plan.specs.Fields.{one_a6, fields_of, HoldsName}
 use Rattle.text.specs.Answers.{room_number, text_answer, text_out}
-use Rattle.text.specs.Written.{Put}
+use borrow.Rule.Slice.PartMut.{put_mid}
+use Rattle.text.specs.Written.{Put, written}
 use Rattle.text.proofs.WrittenLaws.{put_one, put_then}
 use Rattle.nametext.specs.Writing.{text_of}
 use Rattle.line.specs.Writing.{target_text, line_of}
@@ -87,3 +88,8 @@ module _ (r : List ℕ) (room : ℕ) where
 
   pub line_out : one_a6 r ≡ true → text_out (line_of r) room ≡ write_line_out r room
   line_out o = ap (λ (k : ℕ). out_by k (line_of r) room) (number_line o)
+
+-- octets that are copied to a place
+pub put_copied : (d : List ℕ) (at k : ℕ) (xs ys : List ℕ) → ys ≡ xs → k ≡ length xs → put_mid at k d ys ≡ written d at xs
+unfolding written
+put_copied d at k xs ys p q = rw (p, q, drop-drop (length xs) at d)

@@ -44,6 +44,10 @@ type_place s e = elim (same (word_at s (passed s e)) a6_word) [ true ↦ passed 
 unfoldable pub worse : ℕ → ℕ → ℕ
 worse a b = elim (eqb a 0) [ true ↦ b | false ↦ elim (eqb b 0) [ true ↦ a | false ↦ min a b ] ]
 
+-- what the TTL and the type earn, after an owner that ends at a place
+abbrev pub lived_number : List ℕ → ℕ → ℕ
+lived_number s e = worse (decimal_number max_ttl (ttl_word s e)) (type_number (word_at s (type_place s e)))
+
 -- the words after the prefix length, with the address where it is left out
 unfoldable pub full_of : ℕ → List (List ℕ) → List (List ℕ)
 full_of l ts = elim (eqb l 128 && eqb (length ts) 1) [ true ↦ (58 ∷ 58 ∷ []) ∷ ts | false ↦ ts ]

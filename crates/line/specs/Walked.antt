@@ -1,50 +1,39 @@
 -- What is read of a word at its place, for the contracts of the reader: the code's own, nothing that a reader must believe.
-use Rattle.std.specs.Prelude.{ℕ, ◌+◌, min, ◌≡◌, List}
-use Rattle.text.specs.Decimal.{decimal_of}
+use Rattle.std.specs.Prelude.{ℕ, zero, suc, ◌≡◌, ◌⊎◌, Bool, true, false, List, Result, Ok, Err}
+use Rattle.octets.specs.Refusals.{told}
+use Rattle.octets.specs.declared.Refusal.{Refusal}
+use Rattle.octets.specs.declared.Refusal.TheVariants.{Form}
 use Rattle.text.specs.AddressText.{read_address}
-use Rattle.chains.specs.Graph.{max_ttl}
-use Rattle.nametext.specs.Reading.{text_number, name_held}
-use Rattle.nametext.specs.declared.reading.Named.{Named}
+use Rattle.nametext.specs.Reading.{name_held}
 use Rattle.line.specs.Words.{word}
-use Rattle.line.specs.Reading.{decimal_number, type_number, address_number, worst, fields_in}
-use Rattle.line.specs.Walk.{word_at, word_end, tail_from, ttl_word, type_place, worse, full_of, late_number, word_numbers}
-use Rattle.line.specs.declared.reading.Number.{Number}
-use Rattle.line.specs.declared.reading.Address.{Address}
-use Rattle.line.specs.declared.reading.Lived.{Lived}
+use Rattle.line.specs.Walk.{tail_from, full_of, late_number}
+use Rattle.line.specs.declared.reading.Word.{Word}
 use Rattle.line.specs.declared.reading.Rest.{Rest}
-use Rattle.line.specs.declared.reading.Read.{Read}
 
--- a decimal
-pub record NumberAt (s : List ℕ) (at bound : ℕ) (r : Number) : Type 0 where
-  pub number : r.number ≡ decimal_number bound (word_at s at)
-  pub value : (r.number ≡ 20 → ⊥) → r.value ≡ min (bound + 1) (decimal_of (word_at s at))
-  pub next : (r.number ≡ 20 → ⊥) → r.next ≡ word_end s at
+-- by the number: the value, or the refusal
+unfoldable pub value_by : {A : Type 0} → ℕ → A → Result A Refusal
+value_by zero v = Ok v
+value_by (suc j) v = Err (told (suc j))
 
--- an address
-pub record AddressAt (s : List ℕ) (at : ℕ) (r : Address) : Type 0 where
-  pub number : r.number ≡ address_number (word_at s at)
-  pub value : (r.number ≡ 20 → ⊥) → r.address ≡ read_address (word_at s at)
-  pub next : (r.number ≡ 20 → ⊥) → r.next ≡ word_end s at
+-- a word that was read up to a place: it has no form where its value has none, or where it does not end there
+abbrev pub Ended : {A : Type 0} → Result A Refusal → Bool → ℕ → Result (Word A) Refusal → Type 0
+Ended value ends next (Ok w) = (value ≡ Err Form → ⊥) × (ends ≡ true) × (w.value ≡ value) × (w.next ≡ next)
+Ended value ends next (Err e) = (e ≡ Form) × ((value ≡ Err Form) ⊎ (ends ≡ false))
 
--- a name
-pub record NameAt (s : List ℕ) (at : ℕ) (r : Named) : Type 0 where
-  pub number : r.number ≡ text_number (word_at s at)
-  pub name : (r.number ≡ 20 → ⊥) → r.name ≡ name_held (word_at s at)
-  pub next : (r.number ≡ 20 → ⊥) → r.next ≡ word_end s at
+-- what is read of a word that earns a number, stands for a value and ends at a place
+abbrev pub WordAt : {A : Type 0} → ℕ → A → ℕ → Result (Word A) Refusal → Type 0
+WordAt number v end (Ok w) = (number ≡ 20 → ⊥) × (w.value ≡ value_by number v) × (w.next ≡ end)
+WordAt number v end (Err e) = (e ≡ Form) × (number ≡ 20)
 
--- the TTL and the type, after an owner that ends at e
-pub record LivedAt (s : List ℕ) (e : ℕ) (r : Lived) : Type 0 where
-  pub number : r.number ≡ worse (decimal_number max_ttl (ttl_word s e)) (type_number (word_at s (type_place s e)))
-  pub ttl : (r.number ≡ 20 → ⊥) → r.ttl ≡ min (max_ttl + 1) (decimal_of (ttl_word s e))
-  pub next : (r.number ≡ 20 → ⊥) → r.next ≡ word_end s (type_place s e)
+-- a prefix length that was read; 129 for one over 128
+abbrev pub prefix_in : Result ℕ Refusal → ℕ
+prefix_in (Ok l) = l
+prefix_in (Err e) = 129
 
--- the address and the target, after a prefix length of l that ends at e
-pub record RestAt (s : List ℕ) (e l : ℕ) (r : Rest) : Type 0 where
-  pub number : r.number ≡ late_number l (full_of l (tail_from s e))
-  pub address : r.number ≡ 0 → r.address ≡ read_address (word (full_of l (tail_from s e)) 0)
-  pub target : r.number ≡ 0 → r.target ≡ name_held (word (full_of l (tail_from s e)) 1)
-
--- all the words of a body
-pub record ReadAt (ws : List (List ℕ)) (r : Read) : Type 0 where
-  pub number : r.number ≡ worst (word_numbers ws)
-  pub fields : r.number ≡ 0 → r.fields ≡ fields_in ws
+-- what is read of the address and the target, after a prefix length of l that ends at e
+abbrev pub RestAt : List ℕ → ℕ → ℕ → Result Rest Refusal → Type 0
+RestAt s e l (Ok r) =
+    (late_number l (full_of l (tail_from s e)) ≡ 20 → ⊥)
+    × (r.address ≡ read_address (word (full_of l (tail_from s e)) 0))
+    × (r.target ≡ value_by (late_number l (full_of l (tail_from s e))) (name_held (word (full_of l (tail_from s e)) 1)))
+RestAt s e l (Err x) = (x ≡ Form) × (late_number l (full_of l (tail_from s e)) ≡ 20)

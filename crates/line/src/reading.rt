@@ -1,52 +1,35 @@
 // A line's words read one after the other, each from its place on.
-ghost use Rattle.std.specs.Prelude.{◌≡◌, [], ◌≤◌, ◌<◌, eqb, length, drop};
-ghost use Rattle.octets.specs.Octets.{blank, same};
-ghost use Rattle.address.specs.Address.{join_of};
+ghost use Rattle.std.specs.Prelude.{◌≡◌, not, ◌≤◌, ◌<◌, ltb, eqb, length, drop};
+ghost use Rattle.octets.specs.Octets.{same};
+ghost use Rattle.octets.specs.Answers.{earns};
+ghost use Rattle.chains.specs.Graph.{max_ttl};
 ghost use Rattle.text.specs.Digits.{leading};
-ghost use Rattle.names.specs.Name.{name_of};
+ghost use Rattle.text.specs.Decimal.{decimal_of};
+ghost use Rattle.text.specs.AddressText.{read_address};
+ghost use Rattle.nametext.specs.Reading.{text_number, name_held};
 ghost use Rattle.line.specs.Words.{is_blank_octet, words_of};
-ghost use Rattle.line.specs.Reading.{with_ttl, with_address};
+ghost use Rattle.line.specs.Reading.{decimal_number, address_number, with_ttl, with_address, worst, fields_in};
 ghost use Rattle.line.specs.Writing.{a6_word};
-ghost use Rattle.line.specs.Walk.{not_blank, word_at, word_end, passed, worse};
-ghost use Rattle.line.specs.Walked.{NumberAt, AddressAt, NameAt, LivedAt, RestAt, ReadAt};
+ghost use Rattle.line.specs.Walk.{not_blank, word_at, word_end, passed, ttl_word, type_place, lived_number, word_numbers};
+ghost use Rattle.line.specs.Walked.{value_by, Ended, WordAt, RestAt, prefix_in};
 
-// What is read of a decimal: the number that the word earns; where that is not 20, its value, one more than the bound where it is over it, and the place after it.
+use names::Name;
+use octets::Refusal;
+use plan::inside::Fields;
+
+// What is read of a word that has its form: its value, or why it has none, and the place after it. A word without its form is refused at once, since 20 anywhere
+// in a line hides every other number.
 #[derive(Clone, Copy)]
-pub struct Number {
-    pub number: u8,
-    pub value: u64,
+pub struct Word<T> {
+    pub value: Result<T, Refusal>,
     pub next: usize,
 }
 
-// What is read of an address: the number that the word earns; where that is 0, the address, and the place after the word.
-#[derive(Clone, Copy)]
-pub struct Address {
-    pub number: u8,
-    pub address: [u8; 16],
-    pub next: usize,
-}
-
-// What is read of the TTL and the type: the number that they earn; where that is not 20, the TTL, and the place after the type.
-#[derive(Clone, Copy)]
-pub struct Lived {
-    pub number: u8,
-    pub ttl: u32,
-    pub next: usize,
-}
-
-// What is read of the address and the target: the number that they earn; where that is 0, both.
+// What is read of the words that end a line: the address, and the target, or why it is none.
 #[derive(Clone, Copy)]
 pub struct Rest {
-    pub number: u8,
     pub address: [u8; 16],
-    pub target: names::Name,
-}
-
-// What is read of a line without its octet 10: the number that its words earn; where that is 0, the fields.
-#[derive(Clone, Copy)]
-pub struct Read {
-    pub number: u8,
-    pub fields: plan::inside::Fields,
+    pub target: Result<Name, Refusal>,
 }
 
 // The greatest TTL (T-01), the TTL of a line that has none, and the longest prefix.
@@ -56,268 +39,189 @@ const TTL: u32 = 300;
 
 const LONGEST: u32 = 128;
 
-// The words of a line, one after the other.
-pub fn read_words(body: &[u8]) -> Read
-    ensures { ReadAt (with_address (with_ttl (words_of body.now))) result }
+// The words of a line, one after the other: the first bits of the address are cleared, as many as the prefix length.
+pub fn read_words(body: &[u8]) -> Result<Fields, Refusal>
+    ensures { let ws = with_address (with_ttl (words_of body.now)) in result ≡ value_by (worst (word_numbers ws)) (fields_in ws) }
 {
-    let owner = name_word(body, 0);
-    if owner.number == 20 {
-        return missed(20);
+    let owner = name_word(body, 0)?;
+    let lived = lived_words(body, owner.next)?;
+    let length = decimal_word(body, pass(body, lived.next), LONGEST)?;
+    let rest = rest_words(body, length.next, length.value)?;
+    // Every word has its form: 21 of any word comes before 22 of another, and only names earn 22.
+    let ttl = lived.value?;
+    let prefix = length.value? as u8;
+    if matches!(rest.target, Err(Refusal::Range)) {
+        return Err(Refusal::Range);
     }
-    let lived = lived_words(body, owner.next);
-    if lived.number == 20 {
-        return missed(20);
-    }
-    let l = decimal_word(body, pass(body, lived.next), LONGEST);
-    if l.number == 20 {
-        return missed(20);
-    }
-    let rest = rest_words(body, l.next, l.value);
-    let number = worse_of(
-        owner.number,
-        worse_of(lived.number, worse_of(l.number, rest.number)),
-    );
-    if number != 0 {
-        return missed(number);
-    }
-    let name = owner.name;
-    let found = rest.address;
-    let target = rest.target;
-    gathered(name, lived.ttl, l.value as u8, found, target)
-}
-
-// The fields of words that earn no number: the first bits of the address are cleared, as many as the prefix length.
-fn gathered(owner: names::Name, ttl: u32, prefix: u8, found: [u8; 16], target: names::Name) -> Read
-    ensures { result ≡ record { number = 0; fields = record { prefix = prefix; address = join_of (blank 16) found prefix; owner = owner; target = target; ttl = ttl } } }
-{
-    let address = address::join([0u8; 16], found, prefix);
-    let fields = plan::inside::Fields {
+    let owner = owner.value?;
+    let target = rest.target?;
+    let address = address::join([0u8; 16], rest.address, prefix);
+    Ok(Fields {
         prefix,
         address,
         owner,
         target,
         ttl,
-    };
-    Read { number: 0, fields }
-}
-
-// A refusal by its number.
-fn missed(number: u8) -> Read
-    ensures { result.number ≡ number }
-{
-    let fields = plan::inside::Fields {
-        prefix: 0,
-        address: [0u8; 16],
-        owner: no_name(),
-        target: no_name(),
-        ttl: 0,
-    };
-    Read { number, fields }
+    })
 }
 
 // The TTL, where it is not left out, and the type, after an owner that ends at a place.
-fn lived_words(body: &[u8], from: usize) -> Lived
+fn lived_words(body: &[u8], from: usize) -> Result<Word<u32>, Refusal>
     requires { from ≤ length body.now }
-    ensures { LivedAt body.now from result }
+    ensures { WordAt (lived_number body.now from) (decimal_of (ttl_word body.now from)) (word_end body.now (type_place body.now from)) result }
 {
     let at = pass(body, from);
     if is_type(body, at) {
-        return Lived {
-            number: 0,
-            ttl: TTL,
+        return Ok(Word {
+            value: Ok(TTL),
             next: at + 2,
-        };
+        });
     }
-    let d = decimal_word(body, at, MAX_TTL);
-    if d.number == 20 {
-        return not_lived();
-    }
-    let place = pass(body, d.next);
+    let ttl = decimal_word(body, at, MAX_TTL)?;
+    let place = pass(body, ttl.next);
     if !is_type(body, place) {
-        return not_lived();
+        return Err(Refusal::Form);
     }
-    Lived {
-        number: d.number,
-        ttl: d.value as u32,
+    Ok(Word {
+        value: ttl.value,
         next: place + 2,
-    }
-}
-
-// Words that are no TTL and type.
-fn not_lived() -> Lived
-    ensures { result.number ≡ 20 }
-{
-    Lived {
-        number: 20,
-        ttl: 0,
-        next: 0,
-    }
+    })
 }
 
 // The address, where it is not left out, and the target, where there is one, after a prefix length that ends at a place.
-fn rest_words(body: &[u8], from: usize, l: u64) -> Rest
+fn rest_words(body: &[u8], from: usize, prefix: Result<u32, Refusal>) -> Result<Rest, Refusal>
     requires { from ≤ length body.now }
-    ensures { RestAt body.now from l result }
+    ensures { RestAt body.now from (prefix_in prefix) result }
 {
     let at = pass(body, from);
-    if l == 0 {
-        return finished(body, from, at);
+    match prefix {
+        Ok(0) => finished(body, from, at),
+        Ok(128) if word_end(body, at) == body.len() => bare(body, from, at),
+        _ => full(body, from, at, prefix),
     }
-    if l == 128 {
-        if word_end(body, at) == body.len() {
-            return bare(body, from, at);
-        }
-    }
-    full(body, from, at, l)
 }
 
 // An address alone.
-fn finished(body: &[u8], from: usize, at: usize) -> Rest
+fn finished(body: &[u8], from: usize, at: usize) -> Result<Rest, Refusal>
     requires { (from ≤ length body.now) × (at ≡ passed body.now from) }
     ensures { RestAt body.now from 0 result }
 {
-    let a = address_word(body, at);
-    let address = a.address;
-    if a.number != 0 {
-        return no_rest();
+    let word = address_word(body, at)?;
+    if word.next != body.len() {
+        return Err(Refusal::Form);
     }
-    if a.next != body.len() {
-        return no_rest();
-    }
-    Rest {
-        number: 0,
-        address,
-        target: no_name(),
-    }
+    Ok(Rest {
+        address: word.value?,
+        target: Ok(Name::none()),
+    })
 }
 
 // A target alone.
-fn bare(body: &[u8], from: usize, at: usize) -> Rest
+fn bare(body: &[u8], from: usize, at: usize) -> Result<Rest, Refusal>
     requires { (from ≤ length body.now) × (at ≡ passed body.now from) × (word_end body.now at ≡ length body.now) }
     ensures { RestAt body.now from 128 result }
 {
-    let t = name_word(body, at);
-    let target = t.name;
-    Rest {
-        number: t.number,
+    let word = name_word(body, at)?;
+    Ok(Rest {
         address: [0u8; 16],
-        target,
-    }
+        target: word.value,
+    })
 }
 
 // An address and a target.
-fn full(body: &[u8], from: usize, at: usize, l: u64) -> Rest
-    requires { (from ≤ length body.now) × (at ≡ passed body.now from) × (l ≡ 0 → ⊥) × (l ≡ 128 → word_end body.now at < length body.now) }
-    ensures { RestAt body.now from l result }
+fn full(body: &[u8], from: usize, at: usize, prefix: Result<u32, Refusal>) -> Result<Rest, Refusal>
+    requires { (from ≤ length body.now) × (at ≡ passed body.now from) × (prefix_in prefix ≡ 0 → ⊥) × (prefix_in prefix ≡ 128 → word_end body.now at < length body.now) }
+    ensures { RestAt body.now from (prefix_in prefix) result }
 {
-    let a = address_word(body, at);
-    let address = a.address;
-    if a.number != 0 {
-        return no_rest();
+    let address = address_word(body, at)?;
+    let target = name_word(body, pass(body, address.next))?;
+    if target.next != body.len() {
+        return Err(Refusal::Form);
     }
-    let t = name_word(body, pass(body, a.next));
-    let target = t.name;
-    if t.number == 20 {
-        return no_rest();
-    }
-    if t.next != body.len() {
-        return no_rest();
-    }
-    Rest {
-        number: t.number,
-        address,
-        target,
-    }
-}
-
-// Words that do not end a line.
-fn no_rest() -> Rest
-    ensures { result.number ≡ 20 }
-{
-    Rest {
-        number: 20,
-        address: [0u8; 16],
-        target: no_name(),
-    }
-}
-
-// The value that holds no name.
-fn no_name() -> names::Name
-    ensures { result ≡ name_of [] }
-{
-    names::Name {
-        octets: [0u8; 255],
-        length: 0,
-    }
+    Ok(Rest {
+        address: address.value?,
+        target: target.value,
+    })
 }
 
 // The word at a place as a name.
-fn name_word(body: &[u8], at: usize) -> nametext::reading::Named
+fn name_word(body: &[u8], at: usize) -> Result<Word<Name>, Refusal>
     requires { at ≤ length body.now }
-    ensures { NameAt body.now at result }
+    ensures { WordAt (text_number (word_at body.now at)) (name_held (word_at body.now at)) (word_end body.now at) result }
 {
-    let r = nametext::reading::read_name(body, at);
-    if r.number == 20 {
-        return r;
+    let found = nametext::reading::read_name(body, at);
+    ended(found.name, body, found.next)
+}
+
+// The word at a place as a decimal of at most a bound.
+fn decimal_word(body: &[u8], at: usize, bound: u32) -> Result<Word<u32>, Refusal>
+    requires { at ≤ length body.now }
+    ensures { WordAt (decimal_number bound (word_at body.now at)) (decimal_of (word_at body.now at)) (word_end body.now at) result }
+{
+    let found = text::numbers::read_decimal(body, at, bound);
+    let next = found.next;
+    ended(ranged(found, bound), body, next)
+}
+
+// A decimal that was read, within a bound.
+fn ranged(found: text::numbers::Decimal, bound: u32) -> Result<u32, Refusal>
+    ensures { result ≡ value_by (earns (not found.formed) 20 (earns (ltb bound found.value) 21 0)) found.value }
+{
+    if !found.formed {
+        return Err(Refusal::Form);
     }
-    if stops(body, r.next) {
-        return r;
+    if u64::from(bound) < found.value {
+        return Err(Refusal::Range);
     }
-    nametext::reading::Named {
-        number: 20,
-        name: no_name(),
-        next: 0,
+    Ok(found.value as u32)
+}
+
+// The word at a place as an address.
+fn address_word(body: &[u8], at: usize) -> Result<Word<[u8; 16]>, Refusal>
+    requires { at ≤ length body.now }
+    ensures { WordAt (address_number (word_at body.now at)) (read_address (word_at body.now at)) (word_end body.now at) result }
+{
+    let found = text::reading::read_address(body, at);
+    ended(found.address.ok_or(Refusal::Form), body, found.next)
+}
+
+// A word that was read up to a place: it has no form where its value has none, or where more of it follows.
+fn ended<T: Copy>(value: Result<T, Refusal>, body: &[u8], next: usize) -> Result<Word<T>, Refusal>
+    ensures { Ended value (eqb (leading not_blank (drop next body.now)) 0) next result }
+{
+    if matches!(value, Err(Refusal::Form)) || !stops(body, next) {
+        return Err(Refusal::Form);
     }
+    Ok(Word { value, next })
 }
 
 // Whether an octet is a space or a tab.
+#[tactic(auto, unfolding(crate::specs::Words::is_blank_octet))]
 fn is_blank(x: u8) -> bool
     ensures { result ≡ is_blank_octet x }
 {
-    if x == 32 {
-        return true;
-    }
-    x == 9
+    x == b' ' || x == b'\t'
 }
 
 // Whether a word ends at a place: a blank stands there, or the text ends.
 fn stops(body: &[u8], at: usize) -> bool
     ensures { result ≡ eqb (leading not_blank (drop at body.now)) 0 }
 {
-    if body.len() <= at {
-        return true;
-    }
-    is_blank(body[at])
+    body.len() <= at || is_blank(body[at])
 }
 
 // The place after the blanks from a place on.
 fn pass(body: &[u8], from: usize) -> usize
     ensures { result ≡ passed body.now from }
 {
-    let n = body.len();
-    let mut i = from;
-    while i < n {
-        if !is_blank(body[i]) {
-            return i;
-        }
-        i += 1;
-    }
-    i
+    text::inside::pass(body, from, is_blank)
 }
 
 // The place after the word at a place.
 fn word_end(body: &[u8], at: usize) -> usize
     ensures { result ≡ word_end body.now at }
 {
-    let n = body.len();
-    let mut i = at;
-    while i < n {
-        if is_blank(body[i]) {
-            return i;
-        }
-        i += 1;
-    }
-    i
+    text::inside::pass(body, at, |x| !is_blank(x))
 }
 
 // Whether the word at a place is A6.
@@ -325,101 +229,5 @@ fn is_type(body: &[u8], at: usize) -> bool
     requires { at ≤ length body.now }
     ensures { result ≡ same (word_at body.now at) a6_word }
 {
-    if body.len() - at < 2 {
-        return false;
-    }
-    if body[at] != 65 {
-        return false;
-    }
-    if body[at + 1] != 54 {
-        return false;
-    }
-    stops(body, at + 2)
-}
-
-// The word at a place as a decimal of at most a bound.
-fn decimal_word(body: &[u8], at: usize, bound: u32) -> Number
-    requires { at ≤ length body.now }
-    ensures { NumberAt body.now at bound result }
-{
-    let d = text::numbers::read_decimal(body, at, bound);
-    let next = d.next;
-    let value = d.value;
-    if !d.formed {
-        return no_number();
-    }
-    if !stops(body, next) {
-        return no_number();
-    }
-    if (bound as u64) < value {
-        return Number {
-            number: 21,
-            value,
-            next,
-        };
-    }
-    Number {
-        number: 0,
-        value,
-        next,
-    }
-}
-
-// A word that is no decimal.
-fn no_number() -> Number
-    ensures { result.number ≡ 20 }
-{
-    Number {
-        number: 20,
-        value: 0,
-        next: 0,
-    }
-}
-
-// The word at a place as an address.
-fn address_word(body: &[u8], at: usize) -> Address
-    requires { at ≤ length body.now }
-    ensures { AddressAt body.now at result }
-{
-    let a = text::reading::read_address(body, at);
-    let next = a.next;
-    let address = a.address;
-    if !a.formed {
-        return no_address();
-    }
-    if !stops(body, next) {
-        return no_address();
-    }
-    Address {
-        number: 0,
-        address,
-        next,
-    }
-}
-
-// A word that is no address.
-fn no_address() -> Address
-    ensures { result.number ≡ 20 }
-{
-    Address {
-        number: 20,
-        address: [0u8; 16],
-        next: 0,
-    }
-}
-
-// The first of 20, 21 and 22 that is one of two numbers.
-fn worse_of(a: u8, b: u8) -> u8
-    ensures { result ≡ worse a b }
-{
-    if a == 0 {
-        return b;
-    }
-    if b == 0 {
-        return a;
-    }
-    if b < a {
-        return b;
-    }
-    a
+    body[at..].starts_with(b"A6") && stops(body, at + 2)
 }

@@ -7,35 +7,33 @@ ghost use Rattle.text.specs.AddressText.{write_address};
 ghost use Rattle.nametext.specs.Writing.{text_of};
 ghost use Rattle.line.specs.FieldText.{line_room, text_room, held_octets, target_field, fields_text};
 
+use names::Name;
+use plan::inside::Fields;
+
 // Room for a line, and what the writer of the target asks for beyond it: four octets for each octet of the name.
 pub const ROOM: usize = crate::LINE + 15;
 
 // The line of a record's fields from the start of the output on, and where it ends.
-pub fn put_line(fields: plan::inside::Fields, out: &mut [u8]) -> usize
+pub fn put_line(fields: Fields, out: &mut [u8]) -> usize
     requires { SoundFields fields × (length out.old ≡ line_room) }
     ensures { Put out.old out.new 0 result (fields_text fields) }
 {
-    let prefix = fields.prefix;
-    let address = fields.address;
-    let ttl = fields.ttl;
     let a = put_held(fields.owner, out, 0);
-    let b = put_number(ttl as u64, out, a);
+    let b = put_number(u64::from(fields.ttl), out, a);
     let c = put_type(out, b);
-    let d = put_number(prefix as u64, out, c);
-    let e = put_address(address, out, d);
-    let end = put_target(prefix, fields.target, out, e);
-    out[end] = 10;
+    let d = put_number(u64::from(fields.prefix), out, c);
+    let e = put_address(fields.address, out, d);
+    let end = put_target(fields.prefix, fields.target, out, e);
+    out[end] = b'\n';
     end + 1
 }
 
 // The text of a name that is held by value.
-fn put_held(name: names::Name, out: &mut [u8], at: usize) -> usize
+fn put_held(name: Name, out: &mut [u8], at: usize) -> usize
     requires { HoldsName name × (at + text_room ≤ length out.old) }
     ensures { Put out.old out.new at result (text_of (held_octets name)) }
 {
-    let octets = name.octets;
-    let n = octets::wide(name.length);
-    nametext::inside::put_name(&octets[..n], out, at)
+    nametext::inside::put_name(name.as_slice(), out, at)
 }
 
 // A space and a number.
@@ -43,8 +41,8 @@ fn put_number(n: u64, out: &mut [u8], at: usize) -> usize
     requires { at + length (32 ∷ write_decimal n) ≤ length out.old }
     ensures { Put out.old out.new at result (32 ∷ write_decimal n) }
 {
-    out[at] = 32;
-    text::inside::put_decimal(n, out, at + 1)
+    out[at] = b' ';
+    text::inside::put_number::<10>(n, out, at + 1)
 }
 
 // A space and the type.
@@ -52,10 +50,9 @@ fn put_type(out: &mut [u8], at: usize) -> usize
     requires { at + 3 ≤ length out.old }
     ensures { Put out.old out.new at result (32 ∷ 65 ∷ 54 ∷ []) }
 {
-    out[at] = 32;
-    out[at + 1] = 65;
-    out[at + 2] = 54;
-    at + 3
+    let end = at + 3;
+    out[at..end].copy_from_slice(b" A6");
+    end
 }
 
 // A space and an address.
@@ -63,18 +60,18 @@ fn put_address(address: [u8; 16], out: &mut [u8], at: usize) -> usize
     requires { at + length (32 ∷ write_address address) ≤ length out.old }
     ensures { Put out.old out.new at result (32 ∷ write_address address) }
 {
-    out[at] = 32;
+    out[at] = b' ';
     text::inside::put_address(address, out, at + 1)
 }
 
 // A space and the target, and nothing at prefix length 0.
-fn put_target(prefix: u8, target: names::Name, out: &mut [u8], at: usize) -> usize
+fn put_target(prefix: u8, target: Name, out: &mut [u8], at: usize) -> usize
     requires { ((prefix ≡ 0 → ⊥) → HoldsName target) × (at + 1 + text_room ≤ length out.old) }
     ensures { Put out.old out.new at result (target_field prefix target) }
 {
     if prefix == 0 {
         return at;
     }
-    out[at] = 32;
+    out[at] = b' ';
     put_held(target, out, at + 1)
 }

@@ -1,76 +1,79 @@
 -- `line::read_line` meets its contract: one law for each return.
-use Prim.Native.Nat.{ℕ, ◌-◌}
-use mathlib.Core.Path.{◌≡◌, sym, ◌∙◌}
-use mathlib.Core.List.{List}
-use lib.ListN.{length, get_or, get_or-eq_default}
-use lib.Seq.{length-take-le}
+use mathlib.Core.Path.{◌≡◌, refl, ap, ◌∙◌}
+use lib.ListN.{length}
 use native.Mathlib.Omega.{arith}
-use Rattle.line.specs.Words.{body_of, end_of}
-use Rattle.line.specs.Reading.{words_in}
-use Rattle.line.proofs.LineLaws.{read_refused, number_unended, number_earned, number_short, read_done}
-use Rattle.line.proofs.read_line.Goals.{After-clear, Else-line-end-ne10}
+use borrow.Author.Rules.{rules}
+use Rattle.std.specs.Prelude.{Err}
+use Rattle.octets.specs.Refusals.{answered, code_of}
+use Rattle.octets.specs.declared.Refusal.TheVariants.{Form}
+use Rattle.octets.proofs.RefusalLaws.{code_some}
+use Rattle.line.specs.Words.{body_of}
+use Rattle.line.proofs.LineLaws.{read_refused, number_unended, number_short, read_done, ends_ten, ends_other, read_earned, read_whole}
 use Rattle.line.proofs.read_line.Goals as goal
 
--- the line, and how many octets were lent
-abbrev line : After-clear → List ℕ
-line c = c.args.line.now
+pub returns-in_err-body-clause-value : goal.returns-in_err-body-clause-value
+returns-in_err-body-clause-value c =
+    let line = c.args.line.now in
+    let h = rw c.in_err-body.ensures.ok_part at c.strip_suffix.ensures.cases in
+    let f : c.in_err-body.field-0.0 ≡ Form = (let e = rw c.in_err-body.ensures.ok_part at c.in_err-body.ensures.value in cc) in
+    let r : c.from_residual.result ≡ Err c.in_err-body.field-0.0 = search rules in
+    ap answered (r ∙ ap Err f) ∙ (read_refused line _ (length c.args.out.now) c.clear.ensures 20 _ refl (λ z. omega arith) (number_unended line (length c.args.out.now) (ends_other line h))).0
 
-abbrev room : After-clear → ℕ
-room c = length c.args.out.now
+pub returns-in_err-body-clause-out_after : goal.returns-in_err-body-clause-out_after
+returns-in_err-body-clause-out_after c =
+    let line = c.args.line.now in
+    let h = rw c.in_err-body.ensures.ok_part at c.strip_suffix.ensures.cases in
+    (read_refused line _ (length c.args.out.now) c.clear.ensures 20 _ refl (λ z. omega arith) (number_unended line (length c.args.out.now) (ends_other line h))).1
 
-abbrev clear : Else-line-end-ne10 → After-clear
-clear c = record { before = c.before.before.before.before.before.before; type_inv = record { line = c.shared_slice_known-1.given } }
+pub returns-in_err-fields-clause-value : goal.returns-in_err-fields-clause-value
+unfolding body_of
+returns-in_err-fields-clause-value c =
+    let line = c.args.line.now in
+    let h = rw c.in_ok-body.ensures.ok_part at c.strip_suffix.ensures.cases in
+    let r : c.from_residual-in_err-fields.result ≡ Err c.in_err-fields.field-0.0 = search rules in
+    let e = c.in_err-fields.field-0.0 in
+    ap answered r ∙ (read_refused line _ (length c.args.out.now) c.clear.ensures (code_of e) _ refl (code_some e) (read_earned line c.in_ok-body.body.now h.1 (ends_ten line h.0) e (length c.args.out.now) c.in_err-fields.ensures)).0
 
--- an octet of 10 ends the line
-ends : (c : Else-line-end-ne10) → end_of (line (clear c)) ≡ 10
-unfolding end_of
-ends c = c.if-line-end-ne10.false
+pub returns-in_err-fields-clause-out_after : goal.returns-in_err-fields-clause-out_after
+unfolding body_of
+returns-in_err-fields-clause-out_after c =
+    let line = c.args.line.now in
+    let h = rw c.in_ok-body.ensures.ok_part at c.strip_suffix.ensures.cases in
+    let e = c.in_err-fields.field-0.0 in
+    (read_refused line _ (length c.args.out.now) c.clear.ensures (code_of e) _ refl (code_some e) (read_earned line c.in_ok-body.body.now h.1 (ends_ten line h.0) e (length c.args.out.now) c.in_err-fields.ensures)).1
 
-none : (l : List ℕ) → length l ≡ 0 → end_of l ≡ 10 → ⊥
-unfolding end_of
-none l e h = let z : get_or l (length l - 1) 0 ≡ 0 = get_or-eq_default l 0 (omega arith) in omega arith
+pub returns-then-out-lt-RECORD-clause-value : goal.returns-then-out-lt-RECORD-clause-value
+unfolding body_of
+returns-then-out-lt-RECORD-clause-value c =
+    let line = c.args.line.now in
+    let h = rw c.in_ok-body.ensures.ok_part at c.strip_suffix.ensures.cases in
+    let t = ends_ten line h.0 in
+    let w = read_whole line c.in_ok-body.body.now h.1 t c.in_ok-fields.fields c.in_ok-fields.ensures in
+    (read_refused line _ (length c.args.out.now) c.clear.ensures 23 _ refl (λ z. omega arith) (number_short line (length c.args.out.now) t w.0 (omega (arith, c.if-out-lt-RECORD.true, c.clear.auto.out)))).0
 
-pub returns-then-n-eq0 : goal.returns-then-n-eq0
-returns-then-n-eq0 c =
-    let here = (goal.at.returns-then-n-eq0 c).After-clear in
-    let y = read_refused (line here) _ (room here) c.clear.ensures 20 c.refused.result c.refused.ensures (λ z. omega arith) (number_unended (line here) (room here) (none (line here) c.if-n-eq0.true)) in
-    record { value = y.0; out_after = y.1 }
+pub returns-then-out-lt-RECORD-clause-out_after : goal.returns-then-out-lt-RECORD-clause-out_after
+unfolding body_of
+returns-then-out-lt-RECORD-clause-out_after c =
+    let line = c.args.line.now in
+    let h = rw c.in_ok-body.ensures.ok_part at c.strip_suffix.ensures.cases in
+    let t = ends_ten line h.0 in
+    let w = read_whole line c.in_ok-body.body.now h.1 t c.in_ok-fields.fields c.in_ok-fields.ensures in
+    (read_refused line _ (length c.args.out.now) c.clear.ensures 23 _ refl (λ z. omega arith) (number_short line (length c.args.out.now) t w.0 (omega (arith, c.if-out-lt-RECORD.true, c.clear.auto.out)))).1
 
-pub returns-then-line-end-ne10 : goal.returns-then-line-end-ne10
-unfolding end_of
-returns-then-line-end-ne10 c =
-    let here = (goal.at.returns-then-line-end-ne10 c).After-clear in
-    let y = read_refused (line here) _ (room here) c.clear.ensures 20 c.refused-then-line-end-ne10.result c.refused-then-line-end-ne10.ensures (λ z. omega arith) (number_unended (line here) (room here) c.if-line-end-ne10.true) in
-    record { value = y.0; out_after = y.1 }
+pub returns-clause-value : goal.returns-clause-value
+unfolding body_of
+returns-clause-value c =
+    let line = c.args.line.now in
+    let h = rw c.in_ok-body.ensures.ok_part at c.strip_suffix.ensures.cases in
+    let t = ends_ten line h.0 in
+    let w = read_whole line c.in_ok-body.body.now h.1 t c.in_ok-fields.fields c.in_ok-fields.ensures in
+    (read_done line _ _ (length c.args.out.now) c.in_ok-fields.fields t w.0 (omega (arith, c.if-out-lt-RECORD.false, c.clear.auto.out)) w.1 c.clear.ensures c.write_fields.ensures).0
 
-pub slice_bounds-read_words-end : goal.slice_bounds-read_words-end
-slice_bounds-read_words-end c =
-    let here = (goal.at.slice_bounds-read_words-end c).After-clear in
-    let l = line here in omega (arith, length-take-le (length l - 1) l (omega arith))
-
-pub returns-then-number-ne0 : goal.returns-then-number-ne0
-unfolding words_in body_of
-returns-then-number-ne0 c =
-    let at_clear = (goal.at.returns-then-number-ne0 c).After-clear in
-    let else_line_end_ne10 = (goal.at.returns-then-number-ne0 c).Else-line-end-ne10 in
-    let r = c.read_words-r in
-    let y = read_refused (line at_clear) _ (room at_clear) c.clear.ensures r.result.number c.refused-then-number-ne0.result c.refused-then-number-ne0.ensures c.if-number-ne0.true (number_earned (line at_clear) (room at_clear) r.result.number (ends else_line_end_ne10) (sym r.ensures.number) c.if-number-ne0.true) in
-    record { value = y.0; out_after = y.1 }
-
-pub returns-then-out-lt-RECORD : goal.returns-then-out-lt-RECORD
-unfolding words_in body_of
-returns-then-out-lt-RECORD c =
-    let at_clear = (goal.at.returns-then-out-lt-RECORD c).After-clear in
-    let else_line_end_ne10 = (goal.at.returns-then-out-lt-RECORD c).Else-line-end-ne10 in
-    let r = c.read_words-r in
-    let y = read_refused (line at_clear) _ (room at_clear) c.clear.ensures 23 c.refused-then-out-lt-RECORD.result c.refused-then-out-lt-RECORD.ensures (λ z. omega arith) (number_short (line at_clear) (room at_clear) (ends else_line_end_ne10) (sym r.ensures.number ∙ c.if-number-ne0.false) (omega arith)) in
-    record { value = y.0; out_after = y.1 }
-
-pub returns : goal.returns
-unfolding words_in body_of
-returns c =
-    let at_clear = (goal.at.returns c).After-clear in
-    let else_line_end_ne10 = (goal.at.returns c).Else-line-end-ne10 in
-    let r = c.read_words-r in
-    let y = read_done (line at_clear) _ _ (room at_clear) r.result.fields (ends else_line_end_ne10) (sym r.ensures.number ∙ c.if-number-ne0.false) (omega arith) (r.ensures.fields c.if-number-ne0.false) c.clear.ensures c.write_fields.ensures in
-    record { value = y.0; out_after = y.1 }
+pub returns-clause-out_after : goal.returns-clause-out_after
+unfolding body_of
+returns-clause-out_after c =
+    let line = c.args.line.now in
+    let h = rw c.in_ok-body.ensures.ok_part at c.strip_suffix.ensures.cases in
+    let t = ends_ten line h.0 in
+    let w = read_whole line c.in_ok-body.body.now h.1 t c.in_ok-fields.fields c.in_ok-fields.ensures in
+    (read_done line _ _ (length c.args.out.now) c.in_ok-fields.fields t w.0 (omega (arith, c.if-out-lt-RECORD.false, c.clear.auto.out)) w.1 c.clear.ensures c.write_fields.ensures).1

@@ -1,17 +1,21 @@
 -- `line::reading::is_type` meets its contract.
-use mathlib.Core.Path.{sym, ◌∙◌}
-use native.Mathlib.Omega.{arith}
-use Rattle.line.proofs.WalkedLaws.{type_short, type_first, type_second, type_stops}
+use mathlib.Core.Path.{ap, sym, ◌∙◌}
+use mathlib.Core.List.{List}
+use Prim.Native.Nat.{ℕ}
+use lib.Dec.{eqb}
+use Rattle.std.specs.List.{starts_with}
+use Rattle.std.proofs.lemmas.List.{take_rest}
+use Rattle.line.specs.Writing.{a6_word}
+use Rattle.line.proofs.WalkedLaws.{type_begins, type_other, type_stops}
 use Rattle.line.proofs.reading.is_type.Goals as goal
 
-pub returns-then-body-at-lt2 : goal.returns-then-body-at-lt2
-returns-then-body-at-lt2 c = let a = c.args in sym (type_short a.body.now a.at (omega arith) (omega arith))
+pub returns-then-starts_with : goal.returns-then-starts_with
+returns-then-starts_with c =
+    let s = c.args.body.now in
+    let b = type_begins s c.args.at (ap (λ (xs : List ℕ). starts_with eqb xs a6_word) (sym (take_rest s c.args.at)) ∙ sym c.starts_with.ensures.value ∙ c.if-starts_with.true) in
+    c.stops.ensures ∙ sym (type_stops s c.args.at b.0 b.1 b.2)
 
-pub returns-then-body-at-ne65 : goal.returns-then-body-at-ne65
-returns-then-body-at-ne65 c = let a = c.args in sym (type_first a.body.now a.at (omega arith) c.if-body-at-ne65.true)
-
-pub returns-then-body-at-ne54 : goal.returns-then-body-at-ne54
-returns-then-body-at-ne54 c = let a = c.args in sym (type_second a.body.now a.at (omega arith) c.if-body-at-ne65.false c.if-body-at-ne54.true)
-
-pub returns : goal.returns
-returns c = let a = c.args in c.stops.ensures ∙ sym (type_stops a.body.now a.at (omega arith) c.if-body-at-ne65.false c.if-body-at-ne54.false)
+pub returns-else-starts_with : goal.returns-else-starts_with
+returns-else-starts_with c =
+    let s = c.args.body.now in
+    c.if-starts_with.false ∙ sym (type_other s c.args.at (ap (λ (xs : List ℕ). starts_with eqb xs a6_word) (sym (take_rest s c.args.at)) ∙ sym c.starts_with.ensures.value ∙ c.if-starts_with.false))

@@ -1,38 +1,27 @@
 -- `line::reading::rest_words` meets its contract.
-use mathlib.Core.Path.{◌≡◌, sym, ◌∙◌}
-use lib.ListN.{length}
-use Prim.Native.Nat.{◌<◌}
+use mathlib.Core.Path.{ap}
 use native.Mathlib.Omega.{arith}
+use Rattle.line.specs.Walked.{prefix_in}
 use Rattle.line.proofs.WalkLaws.{end_within}
 use Rattle.line.proofs.RestLaws.{at_within}
-use Rattle.line.specs.Walk.{word_end}
-use Rattle.line.proofs.reading.rest_words.Goals.{then-l-eq128+else-word_end-body, else-l-eq128}
+use Rattle.line.proofs.reading.rest_words.Goals.{in_default-via-in-Ok-eq128+else-word_end-body, in_default-via-in-Ok+in_default, in_default-via-in_default}
 use Rattle.line.proofs.reading.rest_words.Goals as goal
-
-pub finished-requires : goal.finished-requires
-finished-requires c = (c.requires, c.pass-at.ensures)
-
-pub returns-then-l-eq0 : goal.returns-then-l-eq0
-returns-then-l-eq0 c = rw c.if-l-eq0.true c.finished.ensures
-
-pub bare-requires : goal.bare-requires
-bare-requires c = (c.requires, c.pass-at.ensures, sym c.word_end.ensures ∙ c.if-word_end-body.true)
-
-pub returns-then-word_end-body : goal.returns-then-word_end-body
-returns-then-word_end-body c = rw c.if-l-eq128.true c.bare.ensures
 
 pub full-requires : goal.full-requires
 full-requires c =
-    let a = c.args in
-    let q = c.requires in
-    let s = a.body.now in
+    let s = c.args.body.now in
     let m = c.pass-at in
-    let w = end_within s m.result (at_within s a.from m.result q m.ensures) in
-    let b : a.l ≡ 128 → word_end s m.result < length s = λ z. elim c.if-l-eq128.branch [
-      | then-l-eq128+else-word_end-body k ↦ omega (arith, w, k.word_end.ensures, k.if-word_end-body.false)
-      | else-l-eq128 k ↦ absurd (k.if-l-eq128.false z)
-    ] in
-    (q, m.ensures, c.if-l-eq0.false, b)
-
-pub returns : goal.returns
-returns c = c.full.ensures
+    let w = end_within s m.result (at_within s c.args.from m.result c.requires m.ensures) in
+    elim c.in_default.branch [
+      | in_default-via-in-Ok-eq128+else-word_end-body k ↦
+          let e = ap prefix_in k.in-Ok-eq128.is in
+          let t = k.in-Ok-eq128.field-0-test in
+          (c.requires, m.ensures, λ z. omega (arith, e, t), λ z. omega (arith, w, k.word_end.ensures, k.if-word_end-body.false))
+      | in_default-via-in-Ok+in_default k ↦
+          let e = ap prefix_in k.in_default.is in
+          let t = k.in_default.field-0-test in
+          (c.requires, m.ensures, λ z. omega (arith, e, t.0), λ z. let y : ⊥ = omega (arith, e, t.1) in absurd y)
+      | in_default-via-in_default k ↦
+          let e = ap prefix_in k.in_default.is in
+          (c.requires, m.ensures, λ z. omega (arith, e), λ z. let y : ⊥ = omega (arith, e) in absurd y)
+    ]
