@@ -1,9 +1,6 @@
--- `examples::print::name` ends.
-use Rattle.std.proofs.Common.{◌-◌, ◌≡◌, length}
+-- `examples::print::name` ends: each label leaves less of the name.
+use Rattle.std.proofs.Common.{length}
 use Rattle.examples.proofs.print.name.Given as goal
 
-abbrev pub invariant-loop-at : goal.invariant-loop-at
-invariant-loop-at g l = l.n ≡ length l.out
-
-abbrev pub decreases-loop-at : goal.decreases-loop-at
-decreases-loop-at g l = l.n - l.at
+abbrev pub decreases-loop-label : goal.decreases-loop-label
+decreases-loop-label g l = length l.rest

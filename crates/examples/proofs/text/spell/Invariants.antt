@@ -1,9 +1,6 @@
 -- `examples::text::spell` writes within the output.
-use Rattle.std.proofs.Common.{◌+◌, ◌-◌, ◌≡◌, ◌≤◌, ◌<◌, length}
+use Rattle.std.proofs.Common.{◌≤◌, length}
 use Rattle.examples.proofs.text.spell.Given as goal
 
-abbrev pub invariant-loop-at : goal.invariant-loop-at
-invariant-loop-at l = (l.at ≤ length l.text + 1) × (l.to < 255) × (l.n ≡ length l.text) × (length l.out ≡ 255)
-
-abbrev pub decreases-loop-at : goal.decreases-loop-at
-decreases-loop-at l = l.n + 1 - l.at
+abbrev pub invariant-loop-part : goal.invariant-loop-part
+invariant-loop-part l = (goal.iterator-loop-part).can_next l.part-iterator × (goal.iterator-loop-part).is_finite l.part-iterator × (l.used ≤ length l.out)
