@@ -2,7 +2,7 @@
 use Rattle.std.proofs.Common.{◌≡◌, refl, sym, subst, ℕ, zero, suc, ◌+◌, ◌-◌, Bool, true, false, not, ◌&&◌, List, [], ◌∷◌, length}
 use lib.Dec.{ltb, eqb}
 use Rattle.octets.specs.Refusals.{code_of, told, number_of}
-use Rattle.octets.proofs.RefusalLaws.{Known, known_zero, known_code, known_earned, known_result}
+use Rattle.octets.proofs.RefusalLaws.{Known, known_zero, known_code, known_earned}
 use Rattle.octets.specs.declared.Refusal.TheVariants.{Short, Malformed}
 use Rattle.labels.specs.Labels.{Label, first_of, is_label, size_of, run_of, label_of, unused_clear, fault_of}
 use Rattle.labels.specs.Scan.{Reading, refused, done, with, scan_from, scan_of}

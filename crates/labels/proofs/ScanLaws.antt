@@ -1,7 +1,7 @@
 -- Laws of the scan: one for each thing that a turn can meet.
 use Prim.Native.Nat.{ℕ, zero, suc, ◌+◌, ◌-◌, ◌≤◌, ◌<◌}
 use mathlib.Core.Path.{◌≡◌, refl, ap, ◌∙◌, sym}
-use mathlib.Core.Bool.{Bool, true, false}
+use mathlib.Core.Bool.{Bool, true, false, ◌&&◌}
 use mathlib.Core.List.{List, [], ◌∷◌}
 use lib.Dec.{ltb, eqb}
 use lib.ListN.{length, get_or, take, drop, length-drop}
@@ -9,7 +9,7 @@ use lib.Seq.{drop-drop}
 use native.Mathlib.Omega.{arith}
 use borrow.Author.Tests.{lt-ltb, eq-eqb, ne_eqb, eqb-true, eqb-false}
 use Rattle.bits.specs.Bits.{octets_for, unpack}
-use Rattle.octets.proofs.BoolLaws.{and_true, and_false, or_true}
+use Rattle.octets.proofs.BoolLaws.{and_true, and_false, or_true, or_false}
 use Rattle.labels.specs.Labels.{ordinary, bits, first_of, count_of, size_of, run_of, label_of, fault_of}
 use Rattle.labels.specs.Scan.{Reading, refused, done, with, scan_from}
 use Rattle.std.specs.Prelude.{Ok, Err}
@@ -78,9 +78,13 @@ module _ (ok : Bool) (run next : ℕ) where
   unfolding still_apart
   apart_first h = rw (still_apart, h) (and_true ok)
 
-  apart_other : next ≡ 0 → still_apart ok run next ≡ ok
+  pub apart_other : next ≡ 0 → still_apart ok run next ≡ ok
   unfolding still_apart
   apart_other h = rw (still_apart, h, or_true (eqb run 0)) (and_true ok)
+
+  pub apart_run : (next ≡ 0 → ⊥) → still_apart ok run next ≡ (ok && eqb run 0)
+  unfolding still_apart
+  apart_run k = rw (still_apart, ne_eqb next 0 k, or_false (eqb run 0))
 
   apart_broken : (run ≡ 0 → ⊥) → (next ≡ 0 → ⊥) → still_apart ok run next ≡ false
   unfolding still_apart

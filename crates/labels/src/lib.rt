@@ -32,7 +32,9 @@ pub fn scan(s: &[u8]) -> Result<Scanned, Refusal>
             });
         }
         // In standard form no two bit labels are adjacent.
-        standard = standard && (run == 0 || step.run == 0);
+        if step.run != 0 {
+            standard &= run == 0;
+        }
         at = step.end;
         run = step.run;
     }
@@ -51,20 +53,22 @@ fn label(s: &[u8], at: usize, run: usize) -> Result<Step, Refusal>
     requires { (at < length s.now) × (at ≤ 255) × (run ≤ 256) }
     ensures { result ≡ step_of at run (drop at s.now) }
 {
-    match s[at] {
-        x @ 0..64 => {
-            let end = at + 1 + usize::from(x);
-            if s.len() < end {
-                return Err(Refusal::Short);
-            }
-            if 255 < end {
-                return Err(Refusal::Malformed);
-            }
-            Ok(Step { end, run: 0 })
+    let x = s[at];
+    // The lengths first: nearly every label is an ordinary one.
+    if x < 64 {
+        let end = at + 1 + usize::from(x);
+        if s.len() < end {
+            return Err(Refusal::Short);
         }
-        65 => bit_label(s, at, run),
-        _ => Err(Refusal::Malformed),
+        if 255 < end {
+            return Err(Refusal::Malformed);
+        }
+        return Ok(Step { end, run: 0 });
     }
+    if x != 65 {
+        return Err(Refusal::Malformed);
+    }
+    bit_label(s, at, run)
 }
 
 // The same for a label that begins with 65.

@@ -9,8 +9,8 @@ returns-then-s-end c = let a = c.args in ordinary_short a.s.now a.at a.run c.req
 pub returns-then-end-gt255 : goal.returns-then-end-gt255
 returns-then-end-gt255 c = let a = c.args in ordinary_long a.s.now a.at a.run c.requires.0 c.from.result c.from.ensures (omega arith) c.if-s-end.false c.if-end-gt255.true
 
-pub returns-else-end-gt255 : goal.returns-else-end-gt255
-returns-else-end-gt255 c = let a = c.args in ordinary_taken a.s.now a.at a.run c.requires.0 c.from.result c.from.ensures (omega arith) c.if-s-end.false c.if-end-gt255.false
+pub returns-then-x-lt64 : goal.returns-then-x-lt64
+returns-then-x-lt64 c = let a = c.args in ordinary_taken a.s.now a.at a.run c.requires.0 c.from.result c.from.ensures (omega arith) c.if-s-end.false c.if-end-gt255.false
 
-pub returns-in_default : goal.returns-in_default
-returns-in_default c = let a = c.args in label_other a.s.now a.at a.run c.requires.0 (omega arith) (λ e. omega arith)
+pub returns-then-x-ne65 : goal.returns-then-x-ne65
+returns-then-x-ne65 c = let a = c.args in label_other a.s.now a.at a.run c.requires.0 (omega arith) (λ e. omega arith)

@@ -2,11 +2,9 @@
 use mathlib.Core.Path.{◌∙◌, sym}
 use lib.ListN.{length-drop}
 use native.Mathlib.Omega.{arith}
-use borrow.Author.Tests.{ne_eqb}
 use Rattle.std.proofs.lemmas.Result.{err_from_is_err_and}
 use Rattle.labels.specs.Scan.{scan_of}
-use Rattle.labels.specs.Steps.{still_apart}
-use Rattle.labels.proofs.ScanLaws.{finish_all, turn_missing, turn_refused, turn_within, turn_ended, turn_on}
+use Rattle.labels.proofs.ScanLaws.{apart_run, apart_other, finish_all, turn_missing, turn_refused, turn_within, turn_ended, turn_on}
 use Rattle.labels.proofs.scan.Goals as goal
 
 pub loop-at-init : goal.loop-at-init
@@ -23,32 +21,23 @@ returns-in_err-step c =
 pub returns-then-s-at-eq0 : goal.returns-then-s-at-eq0
 returns-then-s-at-eq0 c = turn_ended c.args.s.now c.loop-at.at c.loop-at.run c.loop-at-test.true c.in_ok-step.step c.in_ok-step.ensures _ c.if-s-at-eq0.true ∙ c.loop-at.invariant.3
 
-pub loop-at-smaller-then-run-eq0 : goal.loop-at-smaller-then-run-eq0
-loop-at-smaller-then-run-eq0 c = let w = turn_within c.args.s.now c.loop-at.at c.loop-at.run c.loop-at-test.true c.in_ok-step.step c.in_ok-step.ensures in omega arith
+pub loop-at-smaller-then-step-ne0 : goal.loop-at-smaller-then-step-ne0
+loop-at-smaller-then-step-ne0 c = let w = turn_within c.args.s.now c.loop-at.at c.loop-at.run c.loop-at-test.true c.in_ok-step.step c.in_ok-step.ensures in omega arith
 
-pub loop-at-preserved-then-run-eq0 : goal.loop-at-preserved-then-run-eq0
-unfolding still_apart
-loop-at-preserved-then-run-eq0 c =
+pub loop-at-preserved-then-step-ne0 : goal.loop-at-preserved-then-step-ne0
+loop-at-preserved-then-step-ne0 c =
     let w = turn_within c.args.s.now c.loop-at.at c.loop-at.run c.loop-at-test.true c.in_ok-step.step c.in_ok-step.ensures in
-    (omega arith, omega arith, omega arith, turn_on c.args.s.now c.loop-at.at c.loop-at.run c.loop-at-test.true c.in_ok-step.step c.in_ok-step.ensures c.loop-at.standard _ (rw (c.if-standard.true, c.if-run-eq0.true)) c.if-s-at-eq0.false ∙ c.loop-at.invariant.3)
-
-pub loop-at-smaller-else-run-eq0 : goal.loop-at-smaller-else-run-eq0
-loop-at-smaller-else-run-eq0 c = let w = turn_within c.args.s.now c.loop-at.at c.loop-at.run c.loop-at-test.true c.in_ok-step.step c.in_ok-step.ensures in omega arith
-
-pub loop-at-preserved-else-run-eq0 : goal.loop-at-preserved-else-run-eq0
-unfolding still_apart
-loop-at-preserved-else-run-eq0 c =
-    let w = turn_within c.args.s.now c.loop-at.at c.loop-at.run c.loop-at-test.true c.in_ok-step.step c.in_ok-step.ensures in
-    (omega arith, omega arith, omega arith, turn_on c.args.s.now c.loop-at.at c.loop-at.run c.loop-at-test.true c.in_ok-step.step c.in_ok-step.ensures c.loop-at.standard _ (rw (c.if-standard.true, ne_eqb c.loop-at.run 0 c.if-run-eq0.false)) c.if-s-at-eq0.false ∙ c.loop-at.invariant.3)
+    let v = sym (apart_run c.loop-at.standard c.loop-at.run c.in_ok-step.step.run c.if-step-ne0.true) in
+    (omega arith, omega arith, omega arith, turn_on c.args.s.now c.loop-at.at c.loop-at.run c.loop-at-test.true c.in_ok-step.step c.in_ok-step.ensures c.loop-at.standard _ v c.if-s-at-eq0.false ∙ c.loop-at.invariant.3)
 
 pub loop-at-smaller : goal.loop-at-smaller
 loop-at-smaller c = let w = turn_within c.args.s.now c.loop-at.at c.loop-at.run c.loop-at-test.true c.in_ok-step.step c.in_ok-step.ensures in omega arith
 
 pub loop-at-preserved : goal.loop-at-preserved
-unfolding still_apart
 loop-at-preserved c =
     let w = turn_within c.args.s.now c.loop-at.at c.loop-at.run c.loop-at-test.true c.in_ok-step.step c.in_ok-step.ensures in
-    (omega arith, omega arith, omega arith, turn_on c.args.s.now c.loop-at.at c.loop-at.run c.loop-at-test.true c.in_ok-step.step c.in_ok-step.ensures c.loop-at.standard _ (rw c.if-standard.false) c.if-s-at-eq0.false ∙ c.loop-at.invariant.3)
+    let v = sym (apart_other c.loop-at.standard c.loop-at.run c.in_ok-step.step.run c.if-step-ne0.false) in
+    (omega arith, omega arith, omega arith, turn_on c.args.s.now c.loop-at.at c.loop-at.run c.loop-at-test.true c.in_ok-step.step c.in_ok-step.ensures c.loop-at.standard _ v c.if-s-at-eq0.false ∙ c.loop-at.invariant.3)
 
 pub returns : goal.returns
 returns c =
