@@ -38,7 +38,7 @@ pub enum Part {
     Bits(usize),
 }
 
-// A number as four times a whole and a rest.
+// A number as four times a whole and a rest: four times the digits of a text may be more than a word holds.
 #[derive(Clone, Copy)]
 pub struct Quarters {
     pub whole: usize,
@@ -102,6 +102,7 @@ fn judge(text: &[u8]) -> Result<(), Refusal>
         let e = next_dot(text, at);
         tally = match read_part(&text[at..e]) {
             Ok(part) => count(tally, part),
+            // An arm `Err(Refusal::Form)` would leave it untold that the refusal of the next arm is another.
             Err(refusal) => {
                 if refusal == Refusal::Form {
                     return Err(refusal);
@@ -243,7 +244,7 @@ fn escaped_part(p: &[u8]) -> Result<Part, Refusal>
         count += 1;
         rest = &rest[octet.size..];
     }
-    if rest.len() != 0 || count == 0 {
+    if !rest.is_empty() || count == 0 {
         return Err(Refusal::Form);
     }
     if !ranged {
@@ -256,7 +257,7 @@ fn escaped_part(p: &[u8]) -> Result<Part, Refusal>
 fn octet_at(rest: &[u8]) -> Option<Octet>
     ensures { MatchOption result (Ended rest.now) (Stands rest.now) }
 {
-    if rest.len() == 0 {
+    if rest.is_empty() {
         return None;
     }
     let x = rest[0];
@@ -347,7 +348,7 @@ fn counted_part(p: &[u8], e: usize) -> Result<Part, Refusal>
         return Err(Refusal::Form);
     }
     let d = e - 3;
-    let v = read_quarters(p, from, d);
+    let v = read_quarters(&p[from..], d);
     if v.whole + v.rest.div_ceil(4) != d || !is_clear(p[e - 1], v.rest) {
         return Err(Refusal::Form);
     }
@@ -357,20 +358,17 @@ fn counted_part(p: &[u8], e: usize) -> Result<Part, Refusal>
     Ok(Part::Bits(4 * v.whole + v.rest))
 }
 
-// The decimal from a place on, or four times d + 1 if it is more: no sum wraps, however many digits there are.
-fn read_quarters(p: &[u8], from: usize, d: usize) -> Quarters
+// The decimal at the front, or four times d + 1 if it is more: no sum wraps, however many digits there are.
+fn read_quarters(s: &[u8], d: usize) -> Quarters
     requires { d < 2 ^ 63 }
-    ensures { Quartered (decimal_of (drop from p.now)) (4 * (d + 1)) result }
+    ensures { Quartered (decimal_of s.now) (4 * (d + 1)) result }
 {
-    let n = p.len();
     let mut v = Quarters { whole: 0, rest: 0 };
-    let mut i = from;
-    while i < n {
-        if !p[i].is_ascii_digit() {
+    for x in s {
+        if !x.is_ascii_digit() {
             return v;
         }
-        v = ten_times(v, digit_value(p[i]), d);
-        i += 1;
+        v = ten_times(v, digit_value(*x), d);
     }
     v
 }
@@ -543,6 +541,7 @@ fn append_digits(p: &[u8], n: usize, out: &mut [u8], packer: Packer) -> Packer
     let mut q = packer;
     let mut i: usize = 3;
     let mut left = n;
+    // The place and the bits left are one state of the law of this loop; a part of `p` would ask for its three octets before the digits.
     while 4 <= left {
         q = q.push(out, 4, hex_value(p[i]));
         i += 1;

@@ -24,6 +24,7 @@ pub fn put_number<const BASE: u64>(n: u64, out: &mut [u8], at: usize) -> usize
     requires room { at + length (number_text BASE n) ≤ length out.old }
     ensures { Put out.old out.new at result (number_text BASE n) }
 {
+    // The first loop finds the place of the last digit, the second fills the digits from there.
     let mut last = at;
     let mut rest = n;
     while BASE <= rest {
@@ -65,6 +66,7 @@ pub fn pass<T: Fn(u8) -> bool>(s: &[u8], from: usize, test: T) -> usize
     ensures { (t : ℕ → Bool) → ((x : ℕ) → x < 256 → (b : Bool) → T.post test x b → b ≡ t x) → result ≡ from + leading t (drop from s.now) }
 {
     let mut at = from;
+    // The place is the answer and may lie past the end, so the loop counts it.
     while at < s.len() && test(s[at]) {
         at += 1;
     }

@@ -18,6 +18,7 @@ pub fn read_decimal(s: &[u8], from: usize, bound: u32) -> Decimal
     let cap = u64::from(bound) + 1;
     let mut value: u64 = 0;
     let mut next = from;
+    // The place is part of the answer and may lie past the end, so the loop counts it.
     while next < s.len() && s[next].is_ascii_digit() {
         value = (value * 10 + u64::from(s[next] - b'0')).min(cap);
         next += 1;

@@ -1,6 +1,8 @@
 -- `nametext::reading::octet_at` meets its contract: one law for each return.
 use mathlib.Core.Path.{sym, ◌∙◌}
+use lib.ListN.{length}
 use native.Mathlib.Omega.{arith}
+use borrow.Author.Tests.{eqb-false}
 use Rattle.nametext.proofs.PlaceLaws.{three_all, ends_no_escape, ends_no_plain, stands_plain, stands_escape}
 use Rattle.nametext.proofs.reading.octet_at.Goals as goal
 
@@ -19,4 +21,6 @@ pub returns-then-not-is_plain : goal.returns-then-not-is_plain
 returns-then-not-is_plain c = λ h. ends_no_plain c.args.rest.now h c.if-x-eq92.false (sym c.is_plain.ensures ∙ c.if-not-is_plain.true)
 
 pub returns : goal.returns
-returns c = stands_plain c.args.rest.now (omega arith) _ c.from.ensures (omega (arith, (c.type_inv.rest 0).fits)) (sym c.is_plain.ensures ∙ c.if-not-is_plain.false)
+returns c =
+    let n = eqb-false (length c.args.rest.now) 0 (sym c.is_empty.ensures ∙ c.if-is_empty.false) in
+    stands_plain c.args.rest.now (omega (arith, n)) _ c.from.ensures (omega (arith, (c.type_inv.rest 0).fits)) (sym c.is_plain.ensures ∙ c.if-not-is_plain.false)
