@@ -16,7 +16,8 @@ pub fn set_owners(table: &[u8], owners: &mut [u16])
     ensures { owners.new ≡ filled (search_owner table.now owners.old) (count_of table.now) owners.old }
 {
     for i in 0..plan::inside::count(table) {
-        if !plan::inside::is_a6(plan::inside::row(table, i)) {
+        let in_chains = plan::inside::is_a6(plan::inside::row(table, i));
+        if !in_chains {
             owners[i] = NO_OWNER;
         }
     }
