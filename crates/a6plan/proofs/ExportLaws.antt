@@ -1,16 +1,21 @@
 -- Laws of what an answer becomes at the C interface.
-use Prim.Native.Nat.{ℕ, zero, suc, ◌+◌, ◌-◌, ◌≤◌, ◌<◌}
+use Prim.Native.Nat.{ℕ, ◌+◌, ◌-◌, ◌≤◌}
 use mathlib.Core.Path.{◌≡◌, refl, ap, ◌∙◌, sym}
-use mathlib.Core.Bool.{Bool, true, false, not}
+use mathlib.Core.Bool.{Bool, true, false, not, ◌||◌}
 use mathlib.Core.List.{List, [], ◌∷◌, ◌++◌, append-nil, append_assoc}
 use lib.Dec.{eqb}
-use lib.ListN.{length, get_or, take, drop, set, length-append, length-take, length-drop, drop_of_length-le}
-use lib.Seq.{paste, paste-suc, length-take-le, take_all, take_at, drop_at, drop-append-add, get_or_at, set_at}
-use native.Mathlib.Nat.{zero-add}
-use native.Mathlib.Numerals.{add-one}
+use lib.ListN.{length, take, drop, set, length-append, length-take, length-drop, drop_of_length-le}
+use lib.Seq.{length-take-le, take_all, take_at, drop_at, drop-append-add, get_or_at, set_at}
 use native.Mathlib.Omega.{arith}
 use borrow.Author.Tests.{not-false, eq-eqb, ne_eqb, eqb-true, eqb-false}
+use denote.Enum.Bare.{sameb, same_true, same_false}
+use Rattle.std.specs.Prelude.{Result, Ok, Err, MatchResult, map}
+use Rattle.std.specs.List.{list_any}
 use Rattle.octets.specs.Octets.{blank, among}
+use Rattle.octets.specs.Refusals.{code_of, told, number_of}
+use Rattle.octets.specs.contracts.Refusal.{the_type}
+use Rattle.octets.specs.declared.Refusal.{Refusal}
+use Rattle.octets.proofs.RefusalLaws.{told_code, code_some}
 use Rattle.octets.specs.declared.Answer.{Answer}
 use Rattle.octets.specs.Answers.{or_else, answer_by, out_by}
 use Rattle.octets.proofs.AnswerLaws.{earns_zero, not_nought, refused_out, by_number}
@@ -22,10 +27,29 @@ use Rattle.a6.specs.Data.{Shaped}
 use Rattle.a6.specs.declared.Value.{Value}
 use Rattle.a6.specs.Accepted.{value_number, room_number}
 use Rattle.a6.specs.Parts.{value_at, Tells, laid_of, laid_number}
-use Rattle.a6.specs.declared.inside.Found.{Found}
+use Rattle.a6.specs.declared.parts.Found.{Found}
 use Rattle.a6.proofs.AcceptedLaws.{laid_number_lem, laid_answer}
 use Rattle.a6plan.specs.Exports.{Figured, of_name, of_part, of_line, of_table, exported_number, exported_figures, placed_figures, reply_figures, value_size, value_octets, value_in, misfit, exported_read_number, exported_write_number}
-use Rattle.a6plan.specs.Keeping.{cleared_if, kept_for}
+use Rattle.a6plan.specs.Keeping.{kept_for}
+
+-- whether a refusal stands in a list, by the numbers
+same_code : (x e : Refusal) → sameb the_type x e ≡ eqb (code_of x) (code_of e)
+same_code x e = go (sameb the_type x e) refl
+  where
+    go : (b : Bool) → sameb the_type x e ≡ b → b ≡ eqb (code_of x) (code_of e)
+    go true h = sym (eq-eqb (code_of x) (code_of e) (ap code_of (same_true the_type tt x e h)))
+    go false h = sym (ne_eqb (code_of x) (code_of e) (λ k. same_false the_type x e h (sym (told_code x) ∙ ap told k ∙ told_code e)))
+
+pub among_code : (e : Refusal) (es : List Refusal) → list_any (λ x. sameb the_type x e) es ≡ among (code_of e) (map code_of es)
+unfolding among
+among_code e [] = refl
+among_code e (x ∷ es) = λ i. same_code x e i || among_code e es i
+
+-- and 0 is the number of none
+pub among_nought : (es : List Refusal) → among 0 (map code_of es) ≡ false
+unfolding among
+among_nought [] = refl
+among_nought (e ∷ es) = rw (ne_eqb (code_of e) 0 (code_some e)) (among_nought es)
 
 -- the number at the interface, of an operation whose figures slice has n places
 module _ (w : Figured) (n k : ℕ) where
@@ -77,12 +101,11 @@ module _ (w : Figured) (z : Refuses w) (n k : ℕ) where
 
   -- an operation's output, kept where the figures are as many as are wanted: by the exported number it is the result, or zeros
   pub kept_out : (size : ℕ) (result out end : List ℕ) → out ≡ out_by k result size → length out ≡ size → end ≡ kept_for w.wanted n out → end ≡ out_by (exported_number w n k) result size
-  unfolding kept_for
   kept_out size result out end o l e = e ∙ go (eqb n w.wanted) refl
     where
       go : (t : Bool) → eqb n w.wanted ≡ t → kept_for w.wanted n out ≡ out_by (exported_number w n k) result size
-      go true f = rw (kept_for, f, exported_fit w n k (eqb-true n w.wanted f)) o
-      go false f = rw (kept_for, f, l) (refused_out (exported_number w n k) _ refl (λ h. eqb-false n w.wanted f (exported_zero h).0) result size)
+      go true f = rw (f, exported_fit w n k (eqb-true n w.wanted f)) o
+      go false f = rw (f, l) (refused_out (exported_number w n k) _ refl (λ h. eqb-false n w.wanted f (exported_zero h).0) result size)
 
 -- what becomes of an operation's answer and of each of its outputs, by the exported number
 module _ (w : Figured) (n k count work : ℕ) (answer : Answer) (r : ℕ) (a : answer ≡ answer_by k count work) (e : r ≡ exported_number w n answer.number) where
@@ -114,15 +137,6 @@ reported t n k count work size result out end figures reply r o l h =
       (exported_out of_table n k count work reply.answer r a h.0 refuses_table size result out end o.1 l h.1.0, h.1.1 ∙ ap (λ (v : Reply). placed_figures (reply_figures v) n) o.0),
     )
 
-module _ (wanted n : ℕ) (out : List ℕ) where
-  pub keeps_all : n ≡ wanted → out ≡ kept_for wanted n out
-  unfolding kept_for
-  keeps_all h = rw (kept_for, eq-eqb n wanted h)
-
-  pub keeps_none : (n ≡ wanted → ⊥) → blank (length out) ≡ kept_for wanted n out
-  unfolding kept_for
-  keeps_none h = rw (kept_for, ne_eqb n wanted h)
-
 -- figures put where there are as many places, one after the other; else zeros
 module _ (fs : List ℕ) (n : ℕ) where
   pub placed_all : n ≡ length fs → fs ≡ placed_figures fs n
@@ -133,13 +147,6 @@ module _ (fs : List ℕ) (n : ℕ) where
   unfolding placed_figures
   placed_none h = rw (placed_figures, ne_eqb n (length fs) h)
 
-module _ (fs old : List ℕ) where
-  pub put_one : (i : ℕ) → i < length old → i < length fs → set (paste old 0 fs i) i (get_or fs i 0) ≡ paste old 0 fs (i + 1)
-  put_one i p q = ap (λ (k : ℕ). set (paste old 0 fs i) k (get_or fs i 0)) (sym (zero-add i)) ∙ paste-suc old 0 fs i 0 (omega arith) q ∙ ap (paste old 0 fs) (sym (add-one i))
-
-  pub put_over : length old ≡ length fs → paste old 0 fs (length fs) ≡ fs
-  put_over h = rw (take_all (length fs) fs (omega arith), zero-add (length fs), drop_of_length-le old {i = length fs} (omega arith)) (append-nil fs)
-
 -- a result that fills its output
 pub full_out : (result : List ℕ) (room : ℕ) → length result ≡ room → result ≡ out_by 0 result room
 unfolding out_by blank
@@ -147,12 +154,20 @@ full_out result room e =
     let z : room - length result ≡ 0 = omega arith in
     rw z (sym (append-nil result))
 
--- two figures written over two zeros
-pub figures_written : (a b : ℕ) (fs : List ℕ) → length fs ≡ 2 → set (set fs 0 a) 1 b ≡ a ∷ b ∷ []
-figures_written a b [] h = let z : ⊥ = omega arith in absurd z
-figures_written a b (x ∷ []) h = let z : ⊥ = omega arith in absurd z
-figures_written a b (x ∷ y ∷ []) h = refl
-figures_written a b (x ∷ y ∷ z ∷ fs) h = let w : ⊥ = omega arith in absurd w
+-- the two figures by the exported number: those of an operation that is done stand where there are two places; else there are zeros
+module _ (earlier : List Refusal) (n : ℕ) where
+  abbrev two : Figured
+  two = record { wanted = 2; earlier = map code_of earlier }
+
+  pub figured_done : (count work r : ℕ) {figures : List ℕ} → r ≡ exported_number two n 0 → figures ≡ placed_figures (count ∷ work ∷ []) n → figures ≡ out_by r (count ∷ work ∷ []) n
+  figured_done count work r e p = p ∙ go (eqb n 2) refl
+    where
+      go : (b : Bool) → eqb n 2 ≡ b → placed_figures (count ∷ work ∷ []) n ≡ out_by r (count ∷ work ∷ []) n
+      go true f = let h = eqb-true n 2 f in rw (e ∙ exported_fit two n 0 h) (sym (placed_all (count ∷ work ∷ []) n h) ∙ full_out (count ∷ work ∷ []) n (sym h))
+      go false f = let h = eqb-false n 2 f in sym (placed_none (count ∷ work ∷ []) n h) ∙ refused_out r r refl (λ z. h (exported_zero two (among_nought earlier) n 0 (sym e ∙ z)).0) _ n
+
+  pub figured_refused : (e : Refusal) (r : ℕ) {figures : List ℕ} → r ≡ exported_number two n (code_of e) → figures ≡ blank n → figures ≡ out_by r (0 ∷ 0 ∷ []) n
+  figured_refused x r e p = p ∙ refused_out r r refl (λ z. code_some x (exported_zero two (among_nought earlier) n (code_of x) (sym e ∙ z)).1) _ n
 
 -- sixteen octets put into a value, and those of the name after them
 abbrev pub addressed : List ℕ → List ℕ → List ℕ
@@ -200,12 +215,6 @@ pub read_misfit : (m k : ℕ) (result : List ℕ) {end : List ℕ} → (m ≡ va
 unfolding exported_read_number
 read_misfit m k result h e = (rw (ne_eqb m value_size h), e ∙ refused_out 5 5 refl (not_nought 4) result m)
 
--- only a result that 0 gives counts
-out_alike : (r : ℕ) (a b : List ℕ) (room : ℕ) → (r ≡ 0 → a ≡ b) → out_by r a room ≡ out_by r b room
-unfolding out_by
-out_alike zero a b room g = ap (λ (x : List ℕ). x ++ blank (room - length x)) (g refl)
-out_alike (suc j) a b room g = refl
-
 pub read_right : (m k : ℕ) → m ≡ value_size → exported_read_number m k ≡ k
 unfolding exported_read_number
 read_right m k h = rw (eq-eqb m value_size h)
@@ -218,12 +227,19 @@ pub read_zero : (m k : ℕ) → exported_read_number m k ≡ 0 → (m ≡ value_
 unfolding exported_read_number
 read_zero m k e = let t = earns_zero (not (eqb m value_size)) 4 k e in (eqb-true m value_size (not-false (eqb m value_size) t.0), t.1)
 
+-- a value slice that is zeros holds what a refusal gives
+pub read_none : (f : Result Found Refusal) (r m : ℕ) {end : List ℕ} → (r ≡ 0 → ⊥) → end ≡ blank m → MatchResult f (λ x. end ≡ out_by r (value_octets (value_at x)) m) (λ x. end ≡ blank m)
+read_none (Ok x) r m h e = e ∙ refused_out r r refl h (value_octets (value_at x)) m
+read_none (Err x) r m h e = e
+
 -- what the tests of a layout say of data, and what has become of the slice by it
-pub read_told : (m : ℕ) (octets : List ℕ) (f : Found) (number : ℕ) (v : Value) (r : ℕ) {end : List ℕ} → Tells octets f number v
-    → (r ≡ exported_read_number m f.number) × (end ≡ out_by r (value_octets (value_at octets f)) m) → (r ≡ exported_read_number m number) × (end ≡ out_by r (value_octets v) m)
-read_told m octets f number v r t p =
-    let e = p.0 ∙ ap (exported_read_number m) t.0 in
-    (e, p.1 ∙ out_alike r _ _ m (λ z. ap value_octets (t.1 (read_zero m number (sym e ∙ z)).1).1))
+pub read_told : (m : ℕ) (f : Result Found Refusal) (number : ℕ) (v : Value) (r : ℕ) {end : List ℕ} → Tells f number v
+    → (r ≡ exported_read_number m (number_of f)) × MatchResult f (λ x. end ≡ out_by r (value_octets (value_at x)) m) (λ x. end ≡ blank m)
+    → (r ≡ exported_read_number m number) × (end ≡ out_by r (value_octets v) m)
+read_told m (Ok f) number v r t p = (p.0 ∙ ap (exported_read_number m) t.0, p.1 ∙ ap (λ (w : Value). out_by r (value_octets w) m) t.1)
+read_told m (Err e) number v r t p =
+    let k = p.0 ∙ ap (exported_read_number m) t.0 in
+    (k, p.1 ∙ refused_out r r refl (λ z. code_some e (t.0 ∙ (read_zero m number (sym k ∙ z)).1)) (value_octets v) m)
 
 -- ---- writing, in each layout: 5 before everything else
 module _ (m n : ℕ) where
@@ -267,14 +283,6 @@ module _ (m n : ℕ) where
     written h {answer} {r} o f =
         let e : r ≡ k = exported_number_lem of_part n k (length xs) 0 answer r o.0 f.0 ∙ exported_fit of_part n k (fits h).1 in
         (e ∙ rw h, (o.1 ∙ ap (λ (j : ℕ). out_by j xs size) (sym e), exported_figures_lem of_part n k (length xs) 0 answer r o.0 f.0 figures f.1))
-
-pub cleared_if_lem : (b : Bool) (out : List ℕ) → b ≡ true → cleared_if b out ≡ blank (length out)
-unfolding cleared_if
-cleared_if_lem b out e = rw e
-
-pub kept_if : (b : Bool) (out : List ℕ) → b ≡ false → cleared_if b out ≡ out
-unfolding cleared_if
-kept_if b out e = rw e
 
 -- the parts of a value in so many octets
 module _ (xs : List ℕ) where

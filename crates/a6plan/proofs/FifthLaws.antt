@@ -2,11 +2,11 @@
 use Prim.Native.Nat.{ℕ, zero, suc, ◌/◌, ◌≤◌, ◌<◌}
 use mathlib.Core.Path.{◌≡◌, refl, ap, ◌∙◌, sym}
 use mathlib.Core.Bool.{Bool, true, false, not}
-use mathlib.Core.List.{List, [], ◌∷◌}
+use mathlib.Core.List.{List}
 use lib.Dec.{eqb, ltb}
 use lib.ListN.{length}
 use native.Mathlib.Omega.{arith}
-use borrow.Author.Tests.{ne_eqb, eqb-true, eqb-false}
+use borrow.Author.Tests.{ne_eqb}
 use Rattle.octets.specs.Octets.{among}
 use Rattle.octets.specs.Answers.{earns, or_else}
 use Rattle.octets.proofs.AnswerLaws.{earns_not, else_else}
@@ -37,21 +37,22 @@ module _ (w : Figured) (n : ℕ) (h : n ≡ w.wanted → ⊥) where
   exported_fifth (suc e) later a b = exported_early w n (suc e) h (a (λ z. omega arith))
 
 -- what is judged before 5: 1, 2 and 3 of the table by the check, and by the others 4 as well
-early_check : (rest : List ℕ) (e : ℕ) → e ≤ 3 → (e ≡ 0 → ⊥) → among e (1 ∷ 2 ∷ 3 ∷ rest) ≡ true
+early_check : (e : ℕ) → e ≤ 3 → (e ≡ 0 → ⊥) → among e of_check.earlier ≡ true
 unfolding among
-early_check rest zero l h = absurd (h refl)
-early_check rest (suc zero) l h = refl
-early_check rest (suc (suc zero)) l h = refl
-early_check rest (suc (suc (suc zero))) l h = refl
-early_check rest (suc (suc (suc (suc e)))) l h = let z : ⊥ = omega arith in absurd z
+early_check zero l h = absurd (h refl)
+early_check (suc zero) l h = refl
+early_check (suc (suc zero)) l h = refl
+early_check (suc (suc (suc zero))) l h = refl
+early_check (suc (suc (suc (suc e)))) l h = let z : ⊥ = omega arith in absurd z
 
 early_table : (e : ℕ) → e ≤ 4 → (e ≡ 0 → ⊥) → among e of_table.earlier ≡ true
 unfolding among
-early_table e l h = go (eqb e 4) refl
-  where
-    go : (b : Bool) → eqb e 4 ≡ b → among e of_table.earlier ≡ true
-    go true f = ap (λ (k : ℕ). among k of_table.earlier) (eqb-true e 4 f)
-    go false f = early_check (4 ∷ []) e (omega (arith, eqb-false e 4 f)) h
+early_table zero l h = absurd (h refl)
+early_table (suc zero) l h = refl
+early_table (suc (suc zero)) l h = refl
+early_table (suc (suc (suc zero))) l h = refl
+early_table (suc (suc (suc (suc zero)))) l h = refl
+early_table (suc (suc (suc (suc (suc e))))) l h = let z : ⊥ = omega arith in absurd z
 
 -- and what is not: no number from 1 to 4
 late_table : (k : ℕ) → ((m : ℕ) → 0 < m → m ≤ 4 → k ≡ m → ⊥) → among k of_table.earlier ≡ false
@@ -75,7 +76,7 @@ fifth_check t n h = go (check_of t) (check_most t)
   where
     go : (k : ℕ) → k ≤ 3 → exported_number of_check n k ≡ or_else k 5
     go zero l = exported_late of_check n 0 h refl
-    go (suc k) l = exported_early of_check n (suc k) h (early_check [] (suc k) l (λ z. omega arith))
+    go (suc k) l = exported_early of_check n (suc k) h (early_check (suc k) l (λ z. omega arith))
 
 -- Theorem: with figures that are not four `a6plan_lookup` gives what the table and the name earn, or else 5
 pub fifth_lookup : (t name : List ℕ) (limit size room n : ℕ) → (n ≡ 4 → ⊥) → exported_number of_table n (lookup_number t name limit size room) ≡ or_else (entry_number t name) 5

@@ -1,12 +1,8 @@
 -- `a6plan::a6plan_read_1998` meets its contract: what the tests say, and the value.
-use Rattle.a6.proofs.EndingLaws.{told_sound}
 use Rattle.a6plan.proofs.ExportLaws.{read_told}
 use Rattle.a6plan.proofs.a6plan_read_1998.Goals as goal
 
-pub read_into-requires : goal.read_into-requires
-read_into-requires c = told_sound _ _ _ _ c.check.ensures
-
 pub returns : goal.returns
 returns c =
-    let y = read_told _ _ _ _ _ _ c.check.ensures c.read_into.ensures in
+    let y = read_told _ _ _ _ _ c.check.ensures (c.read_into.ensures.number, c.read_into.ensures.valued) in
     record { number = y.0; valued = y.1 }

@@ -4,9 +4,6 @@ use Rattle.a6plan.specs.Exports.{of_line}
 use Rattle.a6plan.proofs.ExportLaws.{refuses_line, answered}
 use Rattle.a6plan.proofs.a6plan_write_line.Goals as goal
 
-pub report_answer-requires : goal.report_answer-requires
-report_answer-requires c = refuses_line
-
 pub returns : goal.returns
 returns c =
     let t = c.report_answer in
