@@ -10,7 +10,8 @@ use native.Mathlib.Numerals.{add-one}
 use borrow.Author.Tests.{lt-ltb, le-ltb, leb-true, leb-false}
 use Rattle.names.specs.Standard.{Unit, units_of}
 use Rattle.plan.specs.Layout.{is_dname, count_of, record_at, owner_at, target_at}
-use Rattle.rewriting.specs.Rewrite.{below_of, over_zero}
+use Rattle.rewriting.specs.Rewrite.{below_of}
+use Rattle.rewriting.specs.Splice.{over_zero}
 use Rattle.rewriting.proofs.ApplyLaws.{below_most}
 use Rattle.reverse.specs.Walk.{Rule, Due, none, due, better, due_from, due_of}
 use Rattle.rewriting.specs.Spots.{units_at}

@@ -30,7 +30,8 @@ use Rattle.rewriting.specs.Spots.{units_at, NoBit, Parted, Found, Standing, Fron
 use Rattle.rewriting.specs.declared.inside.Spot.{Spot}
 use Rattle.rewriting.proofs.BitLaws.{unpack_first}
 use Rattle.rewriting.proofs.SpotLaws.{before_front, before_length, none_left, apart_next, apart_bits}
-use Rattle.rewriting.specs.Rewrite.{below_of, over_zero}
+use Rattle.rewriting.specs.Rewrite.{below_of}
+use Rattle.rewriting.specs.Splice.{over_zero}
 use Rattle.rewriting.proofs.ApplyLaws.{below_yes, below_no}
 
 -- the labels from a place on, written out, are the octets from there on

@@ -1,5 +1,5 @@
 -- One rewrite of a name by a DNAME, on units (01, Reverse names; T-03).
-use Rattle.std.specs.Prelude.{ℕ, zero, suc, Option, Some, None, ◌-◌, ◌<◌, ◌≡◌, Bool, true, false, ◌||◌, List, [], ◌∷◌, ◌++◌, ltb, eqb, length, take, drop}
+use Rattle.std.specs.Prelude.{ℕ, suc, ◌-◌, ◌<◌, ◌≡◌, Bool, true, false, ◌||◌, List, [], ◌∷◌, ◌++◌, ltb, eqb, length, take, drop}
 use Rattle.octets.specs.Octets.{same_by, same}
 use Rattle.names.specs.Standard.{Unit, label, bit, encode, keys}
 
@@ -23,11 +23,6 @@ same_units = same_by same_unit
 -- how many units of the name are below the owner, counted: 0 where the rule does not apply
 unfoldable pub below_of : List Unit → List Unit → ℕ
 below_of owner name = elim (same_units (keys (drop (length name - length owner) name)) (keys owner)) [ true ↦ length name - length owner | false ↦ 0 ]
-
--- a number over 0, and none for 0
-unfoldable pub over_zero : ℕ → Option ℕ
-over_zero zero = None
-over_zero (suc k) = Some (suc k)
 
 -- what a rewrite makes of a name: its first units, as many as are below the owner, in their order, and then the units of the target
 unfoldable pub rewrite_of : ℕ → List Unit → List Unit → List Unit

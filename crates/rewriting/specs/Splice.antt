@@ -1,8 +1,13 @@
 -- What the functions that rewrite a name answer and write: the code's own, nothing that a reader must believe.
-use Rattle.std.specs.Prelude.{ℕ, Option, Some, None, ◌-◌, Bool, true, false, ◌||◌, List, ◌++◌, ltb, length}
+use Rattle.std.specs.Prelude.{ℕ, zero, suc, Option, Some, None, ◌-◌, Bool, true, false, ◌||◌, List, ◌++◌, ltb, length}
 use Rattle.octets.specs.Octets.{blank}
 use Rattle.names.specs.Standard.{Unit, encode_from, encode}
 use Rattle.rewriting.specs.Rewrite.{long_run, too_large}
+
+-- a number over 0, and none for 0
+unfoldable pub over_zero : ℕ → Option ℕ
+over_zero zero = None
+over_zero (suc k) = Some (suc k)
 
 -- octets as the answer to a rewrite: their length, and the octets with zeros after them; none and zeros alone where it is too large
 unfoldable pub fit_length : Bool → List ℕ → Option ℕ

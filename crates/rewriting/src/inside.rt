@@ -5,8 +5,8 @@ ghost use Rattle.bits.specs.Bits.{octets_for, unpack};
 ghost use Rattle.names.specs.Merge.{Begins};
 ghost use Rattle.bits.specs.Packing.{Ready, Pushed};
 ghost use Rattle.rewriting.specs.Spots.{units_at, Turned, Found, Standing, Fronted};
-ghost use Rattle.rewriting.specs.Rewrite.{below_of, over_zero, rewrite_of};
-ghost use Rattle.rewriting.specs.Splice.{spliced_length, spliced_out, joined_length, joined_out};
+ghost use Rattle.rewriting.specs.Rewrite.{below_of, rewrite_of};
+ghost use Rattle.rewriting.specs.Splice.{over_zero, spliced_length, spliced_out, joined_length, joined_out};
 
 use bits::inside::{Packer, low, octets_for};
 

@@ -6,7 +6,8 @@ use Prim.Native.Nat.{ℕ}
 use mathlib.Core.List.{List}
 use Rattle.names.specs.Standard.{Unit, units_of}
 use Rattle.plan.specs.Layout.{is_dname, record_at, owner_at}
-use Rattle.rewriting.specs.Rewrite.{below_of, over_zero}
+use Rattle.rewriting.specs.Rewrite.{below_of}
+use Rattle.rewriting.specs.Splice.{over_zero}
 use Rattle.rewriting.specs.Spots.{units_at}
 use Rattle.rewriting.proofs.LinkLaws.{form_units}
 use Rattle.reverse.proofs.TableLaws.{owner_form, owner_standing}
