@@ -4,7 +4,7 @@ ghost use Rattle.search.specs.Links.{Owned, Fresh, Alone, max_nodes};
 
 use crate::inside::NODES;
 
-// The nodes: of each, the next one and the one before it.
+// The nodes: of each, the next one and the one before it, by their numbers, since nothing here has memory of its own but arrays.
 #[derive(Drop)]
 pub struct Lists {
     pub next: [u16; NODES],
