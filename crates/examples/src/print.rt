@@ -78,7 +78,8 @@ impl fmt::Display for Bits<'_> {
     }
 }
 
-// The name at the front of an output, on a line after this one: its labels, a point after each.
+// The name at the front of an output, on a line after this one: its labels, a point after each. A `for` needs an iterator of its own, whose `next`
+// is `split_label` again.
 pub fn name(rt: &impl Print, out: &[u8]) -> io::Result<()> {
     print!(rt; "\n  ")?;
     let mut rest = out;

@@ -98,10 +98,10 @@ fn address(text: &[u8]) -> [u8; 16] {
     out
 }
 
-// The slot of a name; all zero for no label.
+// The slot of a name; all zero for no label. Its last octet is left for the zero that ends the longest name.
 fn slot(name: &[u8]) -> [u8; SLOT] {
     let mut out = [0u8; SLOT];
-    let used = spell(name, &mut out[1..255]);
+    let used = spell(name, &mut out[1..SLOT - 1]);
     if 0 < used {
         out[0] = (used + 1) as u8;
     }
@@ -169,7 +169,7 @@ fn pack(digits: &[u8], out: &mut [u8]) {
     }
 }
 
-// The value of a hex digit.
+// The value of a hex digit, and some value for any other octet, for which `to_digit` has none.
 fn digit(x: u8) -> u8
     ensures { result < 16 }
 {
