@@ -271,31 +271,6 @@ impl Parts<'_> {
     }
 }
 
-// The same of loose parts.
-pub fn write_record(
-    kind: Kind,
-    prefix: u8,
-    address: [u8; 16],
-    owner: &[u8; SLOT],
-    target: &[u8; SLOT],
-    ttl: u32,
-    out: &mut [u8],
-    to: usize,
-)
-    requires { to + record_size ≤ length out.old }
-    ensures { out.new ≡ paste out.old to (record_of (kind_number kind) prefix address owner.now target.now ttl) record_size }
-{
-    let parts = Parts {
-        kind,
-        prefix,
-        address,
-        owner,
-        target,
-        ttl,
-    };
-    parts.write(out, to);
-}
-
 // The slot of a name.
 pub fn slot_of(name: &[u8]) -> [u8; SLOT]
     requires { length name.now ≤ name_room }
