@@ -1,5 +1,5 @@
 // What only our own layers call: bits packed into octets. Each function asks something of its caller.
-ghost use Rattle.std.specs.Prelude.{◌≡◌, ◌+◌, ◌/◌, ◌%◌, ◌^◌, ◌≤◌, ◌<◌, length, drop};
+ghost use Rattle.std.specs.Prelude.{◌≡◌, ◌+◌, ◌/◌, ◌%◌, ◌^◌, ◌≤◌, ◌<◌, length};
 ghost use Rattle.bits.specs.Bits.{bits_of, octets_for, unpack};
 ghost use Rattle.bits.specs.Packing.{Ready, Pushed, Flushed};
 
@@ -88,27 +88,4 @@ impl Packer {
         out[self.to] = (self.value << (8 - self.have)) as u8;
         self.to + 1
     }
-}
-
-pub fn push(out: &mut [u8], p: Packer, m: usize, x: u8) -> Packer
-    requires ready { Ready out.old p m }
-    requires m_bound { (m ≤ 8) × (x < 2 ^ m) }
-    ensures { Pushed out.old out.new p result (bits_of m x) }
-{
-    p.push(out, m, x)
-}
-
-pub fn append(src: &[u8], from: usize, n: usize, out: &mut [u8], p: Packer) -> Packer
-    requires ready { Ready out.old p n }
-    requires n_bound { (n ≤ 256) × (from + (n + 7) / 8 ≤ length src.now) }
-    ensures { Pushed out.old out.new p result (unpack n (drop from src.now)) }
-{
-    p.append(out, &src[from..], n)
-}
-
-pub fn flush(out: &mut [u8], p: Packer) -> usize
-    requires { Ready out.old p 0 }
-    ensures { Flushed out.old out.new p result }
-{
-    p.flush(out)
 }
