@@ -1,5 +1,5 @@
 use native.Mathlib.Omega.{arith}
-use Rattle.rewriting.proofs.SpotLaws.{passed_within, seeking_start, seeking_on, seeking_found, seeking_more}
+use Rattle.rewriting.proofs.SpotLaws.{passed_within, seeking_start, seeking_on, seeking_more}
 use Rattle.rewriting.proofs.inside.find.Goals as goal
 
 pub loop-left-init : goal.loop-left-init
@@ -7,9 +7,6 @@ loop-left-init c = seeking_start c.args.name.now c.args.j c.requires.begins c.re
 
 pub pass-turn-requires : goal.pass-turn-requires
 pass-turn-requires c = record { begins = c.loop-left.invariant.begins; nonzero = seeking_more c.loop-left.invariant }
-
-pub returns-then-left-turn : goal.returns-then-left-turn
-returns-then-left-turn c = let t = c.pass-turn in seeking_found c.loop-left.invariant t.result.end t.result.units t.ensures c.if-left-turn.true
 
 pub loop-left-smaller : goal.loop-left-smaller
 loop-left-smaller c = let w = passed_within c.pass-turn.ensures in omega arith

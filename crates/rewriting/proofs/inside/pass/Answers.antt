@@ -14,29 +14,14 @@ within : (s : Start) → (s.args.at < length s.args.name.now) × (length s.args.
 within s = (begins_inside s.args.name.now s.args.at s.requires.begins, s.requires.begins.short)
 
 -- ---- and what it owes
-pub bounds-name-at : goal.bounds-name-at
-bounds-name-at c = (within (goal.at.bounds-name-at c).Start).0
-
-pub overflow_add-at : goal.overflow_add-at
-overflow_add-at c = let w = within (goal.at.overflow_add-at c).Start in omega arith
-
 pub bounds-name-at-then-x-eq65 : goal.bounds-name-at-then-x-eq65
 bounds-name-at-then-x-eq65 c =
     let a = c.args in
     let b = at_bits a.name.now a.at (count_for (get_or a.name.now (a.at + 1) 0)) c.requires.begins c.if-x-eq65.true refl in
     omega (arith, b.inside)
 
-pub overflow_add-result : goal.overflow_add-result
-overflow_add-result c = let w = within (goal.at.overflow_add-result c).Start in omega arith
-
 pub returns-then-x-eq65 : goal.returns-then-x-eq65
 returns-then-x-eq65 c = rw c.octets_for.ensures (turned_bits c.args.name.now c.args.at c.count-n.result c.requires.begins c.if-x-eq65.true c.count-n.ensures.0)
-
-pub overflow_add-result-2 : goal.overflow_add-result-2
-overflow_add-result-2 c = let w = within (goal.at.overflow_add-result-2 c).Start in omega arith
-
-pub overflow_add-result-3 : goal.overflow_add-result-3
-overflow_add-result-3 c = let w = within (goal.at.overflow_add-result-3 c).Start in omega arith
 
 pub returns : goal.returns
 returns c =
