@@ -22,12 +22,16 @@ pub fn write_name(name: &[u8], out: &mut [u8]) -> Result<Done, Refusal>
     text::inside::give(&text[..length], out)
 }
 
-// A letter, a digit, a hyphen or an underscore.
+// A letter, a digit, a hyphen or an underscore. Range by range, as in `reading::may_name`.
 #[tactic(auto, using(std::proofs::lemmas::Bool::Decides::nat_tests), unfolding(crate::specs::Characters::is_plain))]
 fn is_plain(x: u8) -> bool
     ensures { result ≡ is_plain x }
 {
-    matches!(x, b'A'..=b'Z' | b'a'..=b'z' | b'0'..=b'9' | b'-' | b'_')
+    matches!(x, b'A'..=b'Z')
+        || matches!(x, b'a'..=b'z')
+        || matches!(x, b'0'..=b'9')
+        || x == b'-'
+        || x == b'_'
 }
 
 pub mod inside;

@@ -78,11 +78,12 @@ fn read_text(text: &[u8]) -> Result<Name, Refusal>
 }
 
 // Whether an octet may stand in a name: they are in three ranges and an underscore.
+// Range by range: as one pattern they are a tree of branches, which the octets of a name take in no order.
 #[tactic(auto, using(std::proofs::lemmas::Bool::Decides::nat_tests), unfolding(crate::specs::Characters::may_name, crate::specs::Characters::is_plain))]
 fn may_name(x: u8) -> bool
     ensures { result ≡ may_name x }
 {
-    matches!(x, b'a'..=b'z' | b'-'..=b'9' | b'A'..=b']' | b'_')
+    matches!(x, b'a'..=b'z') || matches!(x, b'-'..=b'9') || matches!(x, b'A'..=b']') || x == b'_'
 }
 
 // Whether a text is a name, and why it is none: a fault of form in any part comes before one of range, and that before one of size.
