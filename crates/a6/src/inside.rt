@@ -1,4 +1,5 @@
 // What only our own layers call: the reader and the writer in parts, which each layout of the same values puts together; outputs are lent.
+// A layout is its tests, and how many octets of the address stand before the prefix length: a trait for two of them would replace two bodies of one line.
 ghost use Rattle.std.specs.Prelude.{◌≡◌, ◌+◌, ◌-◌, ◌%◌, ◌^◌, ◌≤◌, ◌<◌, max, length, IfOk};
 ghost use Rattle.octets.specs.Octets.{blank};
 ghost use Rattle.octets.specs.Answers.{answer_by, out_by};
