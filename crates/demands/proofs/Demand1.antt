@@ -2,7 +2,7 @@
 -- output and its figures zero, but index and field after 2 and 3 (T-04). In a contract κs are the lifetimes of a call, `x.now` is what the reference x
 -- shows, and `end` and `figured` are the lent output and figures as the call leaves them.
 use Prim.Native.Nat.{ℕ, zero, suc, ◌+◌, ◌≤◌, ◌<◌, min}
-use mathlib.Core.Path.{◌≡◌, refl, ◌∙◌, sym}
+use mathlib.Core.Path.{◌≡◌, refl, ap, ◌∙◌, sym}
 use mathlib.Core.Logic.{◌↔◌}
 use mathlib.Core.Bool.{Bool, true, false}
 use mathlib.Core.List.{List, []}
@@ -21,12 +21,17 @@ use Rattle.octets.proofs.SmallLaws.{get_or_blank}
 use Rattle.octets.proofs.BoolLaws.{clash}
 use Rattle.octets.proofs.equal.Reads as equal
 use Rattle.octets.specs.declared.Answer.{Answer}
+use Rattle.octets.specs.declared.Done.{Done}
+use Rattle.octets.specs.declared.Refusal.{Refusal}
+use Rattle.octets.specs.declared.Refusal.TheVariants.{Prefix, Short, LeftOver}
+use Rattle.octets.specs.Refusals.{code_of, told, number_of, answered}
+use Rattle.octets.proofs.RefusalLaws.{Known, known_zero, known_code, known_earned, known_else, known_result}
+use Rattle.std.specs.Prelude.{Option, Some, None, Result, Ok, Err, is_some}
 use Rattle.octets.proofs.refused.Reads as refused
 use Rattle.octets.proofs.clear.Reads as clear
 use Rattle.octets.proofs.wide.Reads as wide
 use Rattle.octets.proofs.zeros.is_blank.Reads as is_blank
 use Rattle.octets.proofs.numbers.quarter_octets.Reads as quarter_octets
-use Rattle.octets.proofs.numbers.clear.Reads as numbers-clear
 use Rattle.octets.proofs.numbers.lesser.Reads as lesser
 use Rattle.octets.proofs.numbers.wide.Reads as numbers-wide
 use Rattle.address.specs.Address.{join_of, clear_to}
@@ -36,10 +41,11 @@ use Rattle.address.proofs.join.Reads as join
 use Rattle.address.proofs.compare.Reads as compare
 use Rattle.address.proofs.is_clear.Reads as is_clear
 use Rattle.labels.specs.Scan as scans
-use Rattle.labels.specs.Scan.{scan_of}
+use Rattle.labels.specs.Scan.{scan_of, well_formed}
 use Rattle.names.specs.Standard.{standard_of, in_standard_form}
-use Rattle.names.specs.Name.{name_of, held_of}
-use Rattle.labels.specs.Answers.{scanned}
+use Rattle.names.specs.Name.{held, held_of}
+use Rattle.labels.specs.Answers.{scanned, used_by, standard_by}
+use Rattle.labels.proofs.NumberLaws.{scan_number}
 use Rattle.names.specs.Answers.{standard_number, standard_answer, standard_out}
 use Rattle.labels.specs.declared.Scanned.{Scanned}
 use Rattle.names.specs.declared.Name.{Name}
@@ -53,7 +59,6 @@ use Rattle.text.specs.AddressText.{is_address, write_address}
 use Rattle.text.specs.Reading.{whole_of, address_part, address_at}
 use Rattle.text.specs.Answers.{text_answer, text_out}
 use Rattle.text.specs.declared.numbers.Decimal.{Decimal}
-use Rattle.text.specs.declared.reading.Whole.{Whole}
 use Rattle.text.specs.declared.reading.Found.{Found}
 use Rattle.text.proofs.write_decimal.Reads as write-decimal
 use Rattle.text.proofs.addresses.write_address.Reads as write-address
@@ -61,17 +66,16 @@ use Rattle.text.proofs.numbers.read_decimal.Reads as read_decimal
 use Rattle.text.proofs.reading.read_address.Reads as read_address
 use Rattle.text.proofs.reading.read_whole.Reads as read_whole
 use Rattle.text.proofs.reading.digit_in.Reads as digit_in
-use Rattle.nametext.specs.Reading.{text_number, name_part, name_held, name_at}
+use Rattle.nametext.specs.Reading.{text_number, name_part, name_told, name_at}
+use Rattle.nametext.proofs.NumberLaws.{told_number}
 use Rattle.nametext.specs.Answers.{write_name_answer, write_name_out}
 use Rattle.nametext.specs.declared.reading.Named.{Named}
 use Rattle.nametext.proofs.write_name.Reads as write-name
 use Rattle.nametext.proofs.reading.read_name.Reads as read_name
-use Rattle.a6.specs.Data.{blank_value}
-use Rattle.a6.specs.Ending.{reading_for}
+use Rattle.a6.specs.Ending.{name_found, name_number, reading_for}
 use Rattle.a6.specs.Read.{read_number, value_of, read_of}
 use Rattle.a6.specs.Write.{data_of, write_number, write_answer, write_out}
 use Rattle.a6.specs.declared.Value.{Value}
-use Rattle.a6.specs.declared.Reading.{Reading}
 use Rattle.a6.proofs.read.Reads as read
 use Rattle.a6.proofs.write.Reads as write
 use Rattle.draft.specs.Read.{draft_number, draft_value, draft_reading}
@@ -80,8 +84,8 @@ use Rattle.draft.proofs.read.Reads as draft-read
 use Rattle.draft.proofs.write.Reads as draft-write
 use Rattle.plan.specs.Layout.{count_of}
 use Rattle.plan.specs.Check.{check_of, check_answer, InOrder}
-use Rattle.plan.specs.Faults.{fault_in, replying, Placed}
-use Rattle.plan.specs.declared.Reply.{Reply}
+use Rattle.plan.specs.Faults.{fault_in, replying, replied, judged, Placed}
+use Rattle.plan.specs.declared.Refused.{Refused}
 use Rattle.plan.specs.Part.{IsPart, empty_part, owner_part}
 use Rattle.plan.specs.Fields.{one_a6}
 use Rattle.plan.specs.Graph.{graph_of}
@@ -127,6 +131,7 @@ plainly = (tt, (λ h. h, λ h. h))
 pub octets_refused : (κs : Lfts 0) (number : ℕ) (r : Answer) → Promises (refused.Asked κs) (refused.Learnt κs) (number, tt) r (number, tt) (r ≡ refusal number)
 octets_refused κs number r = plainly
 
+-- of octets
 pub octets_clear : (κs : Lfts 1) (out end : MutBor (List ℕ)) → Promises (clear.Asked κs) (clear.Learnt κs) (out, tt) tt (end, tt) (end.now ≡ blank (length out.now))
 octets_clear κs out end = plainly
 
@@ -167,50 +172,50 @@ pub address_is_clear : (κs : Lfts 1) (a : Bor (List ℕ)) (n : ℕ) (r : Bool)
 address_is_clear κs a n r = plainly
 
 -- ---- labels and names
-pub labels_scan : (κs : Lfts 1) (s : Bor (List ℕ)) (r : Scanned) → Promises (scan.Asked κs) (scan.Learnt κs) (s, tt) r (s, tt) (r ≡ scanned (scan_of s.now))
+pub labels_scan : (κs : Lfts 1) (s : Bor (List ℕ)) (r : Result Scanned Refusal) → Promises (scan.Asked κs) (scan.Learnt κs) (s, tt) r (s, tt) (r ≡ scanned (scan_of s.now))
 labels_scan κs s r = plainly
 
-pub names_standard_form : (κs : Lfts 2) (name : Bor (List ℕ)) (out end : MutBor (List ℕ)) (r : Answer)
+pub names_standard_form : (κs : Lfts 2) (name : Bor (List ℕ)) (out end : MutBor (List ℕ)) (r : Result Done Refusal)
     → Promises (standard_form.Asked κs) (standard_form.Learnt κs) (name, (out, tt)) r (name, (end, tt))
-    ((r ≡ standard_answer name.now (length out.now)) × (end.now ≡ standard_out name.now (length out.now)))
+    ((answered r ≡ standard_answer name.now (length out.now)) × (end.now ≡ standard_out name.now (length out.now)))
 names_standard_form κs name out end r = plainly
 
 pub names_is_standard : (κs : Lfts 1) (name : Bor (List ℕ)) (r : Bool)
     → Promises (is_standard.Asked κs) (is_standard.Learnt κs) (name, tt) r (name, tt) (r ≡ in_standard_form name.now)
 names_is_standard κs name r = plainly
 
-pub names_hold : (κs : Lfts 1) (name : Bor (List ℕ)) (r : Name) → Promises (hold.Asked κs) (hold.Learnt κs) (name, tt) r (name, tt) (r ≡ held_of name.now)
+pub names_hold : (κs : Lfts 1) (name : Bor (List ℕ)) (r : Option Name) → Promises (hold.Asked κs) (hold.Learnt κs) (name, tt) r (name, tt) ((held r ≡ held_of name.now) × (is_some r ≡ well_formed name.now))
 names_hold κs name r = plainly
 
 -- ---- text and nametext
-pub text_write_decimal : (κs : Lfts 1) (n : ℕ) (out end : MutBor (List ℕ)) (r : Answer)
+pub text_write_decimal : (κs : Lfts 1) (n : ℕ) (out end : MutBor (List ℕ)) (r : Result Done Refusal)
     → Promises (write-decimal.Asked κs) (write-decimal.Learnt κs) (n, (out, tt)) r (n, (end, tt))
-    ((r ≡ text_answer (write_decimal n) (length out.now)) × (end.now ≡ text_out (write_decimal n) (length out.now)))
+    ((answered r ≡ text_answer (write_decimal n) (length out.now)) × (end.now ≡ text_out (write_decimal n) (length out.now)))
 text_write_decimal κs n out end r = plainly
 
 pub text_read_decimal : (κs : Lfts 1) (s : Bor (List ℕ)) (from bound : ℕ) (r : Decimal)
     → Promises (read_decimal.Asked κs) (read_decimal.Learnt κs) (s, (from, (bound, tt))) r (s, (from, (bound, tt))) (r ≡ decimal_at s.now from bound)
 text_read_decimal κs s from bound r = plainly
 
-pub text_write_address : (κs : Lfts 1) (address : List ℕ) (out end : MutBor (List ℕ)) (r : Answer)
+pub text_write_address : (κs : Lfts 1) (address : List ℕ) (out end : MutBor (List ℕ)) (r : Result Done Refusal)
     → Promises (write-address.Asked κs) (write-address.Learnt κs) (address, (out, tt)) r (address, (end, tt))
-    ((r ≡ text_answer (write_address address) (length out.now)) × (end.now ≡ text_out (write_address address) (length out.now)))
+    ((answered r ≡ text_answer (write_address address) (length out.now)) × (end.now ≡ text_out (write_address address) (length out.now)))
 text_write_address κs address out end r = plainly
 
 pub text_read_address : (κs : Lfts 1) (s : Bor (List ℕ)) (from : ℕ) (r : Found)
     → Promises (read_address.Asked κs) (read_address.Learnt κs) (s, (from, tt)) r (s, (from, tt)) (r ≡ address_at s.now from)
 text_read_address κs s from r = plainly
 
-pub text_read_whole : (κs : Lfts 1) (text : Bor (List ℕ)) (r : Whole)
+pub text_read_whole : (κs : Lfts 1) (text : Bor (List ℕ)) (r : Option (List ℕ))
     → Promises (read_whole.Asked κs) (read_whole.Learnt κs) (text, tt) r (text, tt) (r ≡ whole_of text.now)
 text_read_whole κs text r = plainly
 
 pub text_digit_in : (κs : Lfts 0) (c r : ℕ) → Promises (digit_in.Asked κs) (digit_in.Learnt κs) (c, tt) r (c, tt) ((r ≡ digit_in c) × (r ≤ 16))
 text_digit_in κs c r = plainly
 
-pub nametext_write_name : (κs : Lfts 2) (name : Bor (List ℕ)) (out end : MutBor (List ℕ)) (r : Answer)
+pub nametext_write_name : (κs : Lfts 2) (name : Bor (List ℕ)) (out end : MutBor (List ℕ)) (r : Result Done Refusal)
     → Promises (write-name.Asked κs) (write-name.Learnt κs) (name, (out, tt)) r (name, (end, tt))
-    ((r ≡ write_name_answer name.now (length out.now)) × (end.now ≡ write_name_out name.now (length out.now)))
+    ((answered r ≡ write_name_answer name.now (length out.now)) × (end.now ≡ write_name_out name.now (length out.now)))
 nametext_write_name κs name out end r = plainly
 
 pub nametext_read_name : (κs : Lfts 1) (s : Bor (List ℕ)) (from : ℕ) (r : Named)
@@ -218,27 +223,27 @@ pub nametext_read_name : (κs : Lfts 1) (s : Bor (List ℕ)) (from : ℕ) (r : N
 nametext_read_name κs s from r = plainly
 
 -- ---- a6
-pub a6_read : (κs : Lfts 1) (rdata : Bor (List ℕ)) (r : Reading) → Promises (read.Asked κs) (read.Learnt κs) (rdata, tt) r (rdata, tt) (r ≡ read_of rdata.now)
+pub a6_read : (κs : Lfts 1) (rdata : Bor (List ℕ)) (r : Result Value Refusal) → Promises (read.Asked κs) (read.Learnt κs) (rdata, tt) r (rdata, tt) (r ≡ read_of rdata.now)
 a6_read κs rdata r = plainly
 
-pub a6_write : (κs : Lfts 1) (value : Value) (out end : MutBor (List ℕ)) (r : Answer)
+pub a6_write : (κs : Lfts 1) (value : Value) (out end : MutBor (List ℕ)) (r : Result Done Refusal)
     → Promises (write.Asked κs) (write.Learnt κs) (value, (out, tt)) r (value, (end, tt))
-    ((r ≡ write_answer value (length out.now)) × (end.now ≡ write_out value (length out.now)))
+    ((answered r ≡ write_answer value (length out.now)) × (end.now ≡ write_out value (length out.now)))
 a6_write κs value out end r = plainly
 
 -- ---- draft
-pub draft_draft_read : (κs : Lfts 1) (rdata : Bor (List ℕ)) (r : Reading)
+pub draft_draft_read : (κs : Lfts 1) (rdata : Bor (List ℕ)) (r : Result Value Refusal)
     → Promises (draft-read.Asked κs) (draft-read.Learnt κs) (rdata, tt) r (rdata, tt) (r ≡ draft_reading rdata.now)
 draft_draft_read κs rdata r = plainly
 
-pub draft_draft_write : (κs : Lfts 1) (value : Value) (out end : MutBor (List ℕ)) (r : Answer)
+pub draft_draft_write : (κs : Lfts 1) (value : Value) (out end : MutBor (List ℕ)) (r : Result Done Refusal)
     → Promises (draft-write.Asked κs) (draft-write.Learnt κs) (value, (out, tt)) r (value, (end, tt))
-    ((r ≡ draft_answer value (length out.now)) × (end.now ≡ draft_out value (length out.now)))
+    ((answered r ≡ draft_answer value (length out.now)) × (end.now ≡ draft_out value (length out.now)))
 draft_draft_write κs value out end r = plainly
 
 -- ---- plan
-pub plan_check : (κs : Lfts 1) (table : Bor (List ℕ)) (r : Reply)
-    → Promises (check.Asked κs) (check.Learnt κs) (table, tt) r (table, tt) (r ≡ replying table.now (check_answer table.now))
+pub plan_check : (κs : Lfts 1) (table : Bor (List ℕ)) (r : Result (Unit {0}) Refused)
+    → Promises (check.Asked κs) (check.Learnt κs) (table, tt) r (table, tt) (judged r ≡ replying table.now (check_answer table.now))
 plan_check κs table r = plainly
 
 pub plan_owner : (κs : Lfts 1) (table r : Bor (List ℕ)) (index : ℕ)
@@ -249,32 +254,32 @@ pub plan_is_a6 : (κs : Lfts 1) (row : Bor (List ℕ)) (r : Bool) → Promises (
 plan_is_a6 κs row r = plainly
 
 -- ---- line
-pub line_write_line : (κs : Lfts 2) (row : Bor (List ℕ)) (out end : MutBor (List ℕ)) (r : Answer)
+pub line_write_line : (κs : Lfts 2) (row : Bor (List ℕ)) (out end : MutBor (List ℕ)) (r : Result Done Refusal)
     → Promises (write_line.Asked κs) (write_line.Learnt κs) (row, (out, tt)) r (row, (end, tt))
-    ((r ≡ write_line_answer row.now (length out.now)) × (end.now ≡ write_line_out row.now (length out.now)))
+    ((answered r ≡ write_line_answer row.now (length out.now)) × (end.now ≡ write_line_out row.now (length out.now)))
 line_write_line κs row out end r = plainly
 
-pub line_read_line : (κs : Lfts 2) (line : Bor (List ℕ)) (out end : MutBor (List ℕ)) (r : Answer)
+pub line_read_line : (κs : Lfts 2) (line : Bor (List ℕ)) (out end : MutBor (List ℕ)) (r : Result Done Refusal)
     → Promises (read_line.Asked κs) (read_line.Learnt κs) (line, (out, tt)) r (line, (end, tt))
-    ((r ≡ read_line_answer line.now (length out.now)) × (end.now ≡ read_line_out line.now (length out.now)))
+    ((answered r ≡ read_line_answer line.now (length out.now)) × (end.now ≡ read_line_out line.now (length out.now)))
 line_read_line κs line out end r = plainly
 
 -- ---- forward, reverse and collapse
-pub forward_lookup : (κs : Lfts 4) (table name : Bor (List ℕ)) (out end ttls left : MutBor (List ℕ)) (limit : ℕ) (r : Reply)
+pub forward_lookup : (κs : Lfts 4) (table name : Bor (List ℕ)) (out end ttls left : MutBor (List ℕ)) (limit : ℕ) (r : Result Done Refused)
     → Promises (lookup.Asked κs) (lookup.Learnt κs) (table, (name, (limit, (out, (ttls, tt))))) r (table, (name, (limit, (end, (left, tt)))))
-    ((r ≡ replying table.now (lookup_answer table.now name.now limit (length out.now) (length ttls.now)))
+    ((replied r ≡ replying table.now (lookup_answer table.now name.now limit (length out.now) (length ttls.now)))
     × ((end.now ≡ lookup_out table.now name.now limit (length out.now) (length ttls.now))
     × (left.now ≡ lookup_ttls table.now name.now limit (length out.now) (length ttls.now))))
 forward_lookup κs table name out end ttls left limit r = plainly
 
-pub reverse_lookup : (κs : Lfts 3) (table address : Bor (List ℕ)) (out end : MutBor (List ℕ)) (limit : ℕ) (r : Reply)
+pub reverse_lookup : (κs : Lfts 3) (table address : Bor (List ℕ)) (out end : MutBor (List ℕ)) (limit : ℕ) (r : Result Done Refused)
     → Promises (reverse.Asked κs) (reverse.Learnt κs) (table, (address, (limit, (out, tt)))) r (table, (address, (limit, (end, tt))))
-    ((r ≡ replying table.now (reverse_answer table.now address.now limit (length out.now))) × (end.now ≡ reverse_out table.now address.now limit (length out.now)))
+    ((replied r ≡ replying table.now (reverse_answer table.now address.now limit (length out.now))) × (end.now ≡ reverse_out table.now address.now limit (length out.now)))
 reverse_lookup κs table address out end limit r = plainly
 
-pub collapse_collapse : (κs : Lfts 3) (table name : Bor (List ℕ)) (out end : MutBor (List ℕ)) (r : Reply)
+pub collapse_collapse : (κs : Lfts 3) (table name : Bor (List ℕ)) (out end : MutBor (List ℕ)) (r : Result Done Refused)
     → Promises (collapse.Asked κs) (collapse.Learnt κs) (table, (name, (out, tt))) r (table, (name, (end, tt)))
-    ((r ≡ replying table.now (collapse_answer table.now name.now (length out.now))) × (end.now ≡ collapse_out table.now name.now (length out.now)))
+    ((replied r ≡ replying table.now (collapse_answer table.now name.now (length out.now))) × (end.now ≡ collapse_out table.now name.now (length out.now)))
 collapse_collapse κs table name out end r = plainly
 
 -- ---- the twelve exports: the number, the output and the figures
@@ -366,30 +371,41 @@ refused_counts k count work h = let c = by_number_clears k count work [] 0 (λ e
 pub standard_clears : (name : List ℕ) (room : ℕ) → Cleared (standard_answer name room) (standard_out name room) room
 standard_clears name room = by_number_clears _ _ _ _ room
 
--- a refused scan has used nothing
-pub scan_clears : (xs : List ℕ) → ((scanned (scan_of xs)).number ≡ 0 → ⊥) → ((scanned (scan_of xs)).used ≡ 0) × ((scanned (scan_of xs)).standard ≡ false)
+-- a refused scan has used nothing, and has the number of its reading
+pub scan_clears : (xs : List ℕ) → (number_of (scanned (scan_of xs)) ≡ 0 → ⊥) → (used_by (scanned (scan_of xs)) ≡ 0) × (standard_by (scanned (scan_of xs)) ≡ false)
 unfolding scanned
 scan_clears xs = go (scan_of xs)
   where
-    go : (r : scans.Reading) → ((scanned r).number ≡ 0 → ⊥) → ((scanned r).used ≡ 0) × ((scanned r).standard ≡ false)
+    go : (r : scans.Reading) → (number_of (scanned r) ≡ 0 → ⊥) → (used_by (scanned r) ≡ 0) × (standard_by (scanned r) ≡ false)
     go (scans.refused n) h = (refl, refl)
     go (scans.done ls used) h = absurd (h refl)
 
--- a refused reading shows L = 0, zero octets and name length 0
-reading_clears : (k : ℕ) (v : Value) → ((reading_for k v).number ≡ 0 → ⊥) → (reading_for k v).value ≡ blank_value
+pub scan_told : (xs : List ℕ) (n : ℕ) → scan_of xs ≡ scans.refused n → number_of (scanned (scan_of xs)) ≡ n
+scan_told = scan_number
+
+-- a refused reading gives the refusal of its number, and no value
+reading_clears : (k : ℕ) (v : Value) → Known k → (k ≡ 0 → ⊥) → (e : Refusal) × (reading_for k v ≡ Err e) × (code_of e ≡ k)
 unfolding reading_for
-reading_clears zero v h = absurd (h refl)
-reading_clears (suc k) v h = refl
+reading_clears zero v known h = absurd (h refl)
+reading_clears (suc k) v known h = (told (suc k), refl, known h)
 
-pub read_clears : (octets : List ℕ) → ((read_of octets).number ≡ 0 → ⊥)
-    → (read_of octets).value ≡ record { prefix = 0; address = blank 16; name = record { octets = blank 255; length = 0 } }
-unfolding reading_for name_of
-read_clears octets = reading_clears (read_number octets) (value_of octets)
+name_known : (l : ℕ) (rest : List ℕ) → Known (name_number l rest)
+unfolding name_number
+name_known l rest = known_else _ _ (known_result (name_found l rest)) (known_earned _ 13 0 (known_code LeftOver) known_zero)
 
-pub draft_read_clears : (octets : List ℕ) → ((draft_reading octets).number ≡ 0 → ⊥)
-    → (draft_reading octets).value ≡ record { prefix = 0; address = blank 16; name = record { octets = blank 255; length = 0 } }
-unfolding reading_for name_of
-draft_read_clears octets = reading_clears (draft_number octets) (draft_value octets)
+read_known : (octets : List ℕ) → Known (read_number octets)
+unfolding read_number
+read_known octets = known_earned _ 11 _ (known_code Short) (known_earned _ 10 _ (known_code Prefix) (known_earned _ 11 _ (known_code Short) (name_known _ _)))
+
+draft_known : (octets : List ℕ) → Known (draft_number octets)
+unfolding draft_number
+draft_known octets = known_earned _ 11 _ (known_code Short) (known_earned _ 10 _ (known_code Prefix) (name_known _ _))
+
+pub read_clears : (octets : List ℕ) → (read_number octets ≡ 0 → ⊥) → (e : Refusal) × (read_of octets ≡ Err e) × (code_of e ≡ read_number octets)
+read_clears octets = reading_clears (read_number octets) (value_of octets) (read_known octets)
+
+pub draft_read_clears : (octets : List ℕ) → (draft_number octets ≡ 0 → ⊥) → (e : Refusal) × (draft_reading octets ≡ Err e) × (code_of e ≡ draft_number octets)
+draft_read_clears octets = reading_clears (draft_number octets) (draft_value octets) (draft_known octets)
 
 -- a refused writing has both figures 0 and its output zero
 pub draft_write_clears : (v : Value) (room : ℕ) → Cleared (draft_answer v room) (draft_out v room) room
@@ -408,23 +424,23 @@ write_address_clears address room = by_number_clears _ _ _ _ room
 pub write_name_clears : (name : List ℕ) (room : ℕ) → Cleared (write_name_answer name room) (write_name_out name room) room
 write_name_clears name room = by_number_clears _ _ _ _ room
 
--- text that is no address shows zero octets
-pub read_whole_clears : (text : List ℕ) → (whole_of text).formed ≡ false → (whole_of text).address ≡ blank 16
+-- text that is no address gives none
+pub read_whole_clears : (text : List ℕ) → is_address text ≡ false → whole_of text ≡ None
 unfolding whole_of
-read_whole_clears text = go (is_address text) refl
-  where
-    go : (b : Bool) → is_address text ≡ b → (whole_of text).formed ≡ false → (whole_of text).address ≡ blank 16
-    go true e f = absurd (clash (rw (whole_of, e)) f)
-    go false e f = rw (whole_of, e)
+read_whole_clears text e = rw (whole_of, e)
 
-pub read_address_clears : (s : List ℕ) (from : ℕ) → (address_at s from).formed ≡ false → (address_at s from).address ≡ blank 16
+pub read_address_clears : (s : List ℕ) (from : ℕ) → is_address (address_part s from) ≡ false → (address_at s from).address ≡ None
 unfolding address_at
 read_address_clears s from = read_whole_clears (address_part s from)
 
--- a refused name shows zero octets and length 0
-pub read_name_clears : (s : List ℕ) (from : ℕ) → ((name_at s from).number ≡ 0 → ⊥) → (name_at s from).name ≡ record { octets = blank 255; length = 0 }
-unfolding name_at name_held name_of
-read_name_clears s from h = rw (name_held, ne_eqb (text_number (name_part s from)) 0 h)
+-- a refused name gives the refusal of its number, and no name
+pub read_name_clears : (s : List ℕ) (from : ℕ) → (text_number (name_part s from) ≡ 0 → ⊥) → (e : Refusal) × ((name_at s from).name ≡ Err e) × (code_of e ≡ text_number (name_part s from))
+unfolding name_at
+read_name_clears s from h = go (name_told (name_part s from)) refl
+  where
+    go : (r : Result Name Refusal) → name_told (name_part s from) ≡ r → (e : Refusal) × (name_told (name_part s from) ≡ Err e) × (code_of e ≡ text_number (name_part s from))
+    go (Ok n) f = absurd (h (sym (told_number (name_part s from)) ∙ ap number_of f))
+    go (Err e) f = (e, f, sym (ap number_of f) ∙ told_number (name_part s from))
 
 -- a refused writing of a line, and a refused reading, has both figures 0 and its output zero
 pub write_line_clears : (row : List ℕ) (room : ℕ) → Cleared (write_line_answer row room) (write_line_out row room) room

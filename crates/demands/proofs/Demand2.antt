@@ -15,7 +15,11 @@ use Rattle.octets.specs.Octets.{blank, Small}
 use Rattle.octets.specs.Answers.{answering}
 use Rattle.octets.proofs.AnswerLaws.{by_number}
 use Rattle.octets.specs.declared.Answer.{Answer}
+use Rattle.octets.specs.declared.Done.{Done}
+use Rattle.plan.specs.declared.Refused.{Refused}
 use Rattle.plan.specs.declared.Reply.{Reply}
+use Rattle.plan.specs.Faults.{replied}
+use Rattle.std.specs.Prelude.{Result, Ok}
 use Rattle.labels.specs.Scan.{well_formed}
 use Rattle.chains.specs.Lists.{In}
 use Rattle.chains.specs.Lifetimes.{Source, Lifetime}
@@ -36,11 +40,10 @@ use Rattle.reverse.specs.Demand.{ReverseIs}
 use Rattle.reverse.proofs.Demand.{reverse_is}
 use Rattle.reverse.proofs.lookup.Reads as reversed
 use Rattle.a6.specs.Data.{Shaped}
-use Rattle.a6.specs.Read.{read_number, value_of, read_of}
+use Rattle.a6.specs.Read.{read_of}
 use Rattle.a6.specs.Write.{write_number, write_answer, write_out}
 use Rattle.a6.specs.Standard.{standard_data}
 use Rattle.a6.specs.declared.Value.{Value}
-use Rattle.a6.proofs.EndingLaws.{reading_number}
 use Rattle.a6.proofs.Layouts.{write_read, read_write}
 use Rattle.a6.proofs.RoundTrip.{a6_layout}
 use Rattle.demands.specs.Demand2.{Ownable}
@@ -122,20 +125,20 @@ module _ {t name : List ℕ} {limit room : ℕ} {r : Answer} {out ttls : List �
 
 -- A call of the running `lookup` with input that earns none of 1 to 5, by what its caller learns: its answer and its two lists, as it leaves them,
 -- are as the demand says.
-module _ (κs : Lfts 4) (table name : Bor (List ℕ)) (out end ttls ends : MutBor (List ℕ)) (limit : ℕ) (r : Reply)
+module _ (κs : Lfts 4) (table name : Bor (List ℕ)) (out end ttls ends : MutBor (List ℕ)) (limit : ℕ) (r : Result Done Refused)
     (learnt : forward.Learnt κs (table, (name, (limit, (out, (ttls, tt))))) r (table, (name, (limit, (end, (ends, tt))))))
     (o : InOrder table.now) (w : well_formed name.now ≡ true) (e : length out.now ≡ length ttls.now * 16) where
   -- of a table of octets: a caller's proof has this of each slice of octets that it lends
-  pub lookup_learnt : Small table.now → Demanded table.now name.now limit (length ttls.now) r.answer end.now ends.now
+  pub lookup_learnt : Small table.now → Demanded table.now name.now limit (length ttls.now) (replied r).answer end.now ends.now
   lookup_learnt s =
       let room = length ttls.now in
-      let h : r.answer ≡ lookup_answer table.now name.now limit (room * 16) room = ap (λ (v : Reply). v.answer) learnt.0 ∙ rw e in
+      let h : (replied r).answer ≡ lookup_answer table.now name.now limit (room * 16) room = ap (λ (v : Reply). v.answer) learnt.0 ∙ rw e in
       let k : end.now ≡ lookup_out table.now name.now limit (room * 16) room = learnt.1.0 ∙ rw e in
       let l : ends.now ≡ lookup_ttls table.now name.now limit (room * 16) room = learnt.1.1 ∙ rw e in
       rw (h, k, l) (lookup table.now name.now limit room o s w)
 
   -- and of any call: the types of its arguments give that the table shows octets (`slices_octets`, proofs/Owned.antt)
-  pub lookup_running : Ownable lookup-signature κs (table, (name, (limit, (out, (ttls, tt))))) → Demanded table.now name.now limit (length ttls.now) r.answer end.now ends.now
+  pub lookup_running : Ownable lookup-signature κs (table, (name, (limit, (out, (ttls, tt))))) → Demanded table.now name.now limit (length ttls.now) (replied r).answer end.now ends.now
   lookup_running owned = lookup_learnt (slices_octets 2 [] (later lookup-signature.params) lookup-signature.result κs (table, (name, (limit, (out, (ttls, tt))))) owned).0
 
 -- TTLs change nothing else: tables in order that differ in TTLs alone give the same number, figures and addresses for every call
@@ -179,23 +182,22 @@ module _ {t address : List ℕ} {limit : ℕ} {r : Answer} {out : List ℕ} (d :
 
 -- A call of the running `lookup` of reverse names with input that earns none of 1 to 5, by what its caller learns: its answer and its output, as it
 -- leaves it, are as the demand says. Nothing of the octets of a slice is needed.
-pub reverse_running : (κs : Lfts 3) (table address : Bor (List ℕ)) (out end : MutBor (List ℕ)) (limit : ℕ) (r : Reply)
+pub reverse_running : (κs : Lfts 3) (table address : Bor (List ℕ)) (out end : MutBor (List ℕ)) (limit : ℕ) (r : Result Done Refused)
     → reversed.Learnt κs (table, (address, (limit, (out, tt)))) r (table, (address, (limit, (end, tt))))
     → InOrder table.now → length address.now ≡ address_size → length out.now ≡ name_room
-    → ReverseIs table.now address.now limit r.answer end.now
+    → ReverseIs table.now address.now limit (replied r).answer end.now
 reverse_running κs table address out end limit r learnt o l e =
-    let h : r.answer ≡ reverse_answer table.now address.now limit name_room = ap (λ (v : Reply). v.answer) learnt.0 ∙ rw e in
+    let h : (replied r).answer ≡ reverse_answer table.now address.now limit name_room = ap (λ (v : Reply). v.answer) learnt.0 ∙ rw e in
     let k : end.now ≡ reverse_out table.now address.now limit name_room = learnt.1 ∙ rw e in
     rw (h, k) (reverse table.now address.now limit o l)
 
 -- ---- A6 data
 -- what was read and is written back is the standard form of the data, with zeros after it
-pub write_back : (octets : List ℕ) (room : ℕ) → Small octets → (read_of octets).number ≡ 0 → length (standard_data octets) ≤ room
-    → (write_answer (read_of octets).value room ≡ answering (length (standard_data octets)) 0)
-    × (write_out (read_of octets).value room ≡ standard_data octets ++ blank (room - length (standard_data octets)))
-write_back octets room s e l = write_read a6_layout octets room s (sym (reading_number (read_number octets) (value_of octets)) ∙ e) l
+pub write_back : (octets : List ℕ) (v : Value) (room : ℕ) → Small octets → read_of octets ≡ Ok v → length (standard_data octets) ≤ room
+    → (write_answer v room ≡ answering (length (standard_data octets)) 0)
+    × (write_out v room ≡ standard_data octets ++ blank (room - length (standard_data octets)))
+write_back = write_read a6_layout
 
 -- what was written and is read back is the value; `Shaped` is what the type of a value gives
-pub read_back : (v : Value) (room : ℕ) → Shaped v → (write_answer v room).number ≡ 0
-    → read_of (take (write_answer v room).count (write_out v room)) ≡ record { number = 0; value = v }
+pub read_back : (v : Value) (room : ℕ) → Shaped v → (write_answer v room).number ≡ 0 → read_of (take (write_answer v room).count (write_out v room)) ≡ Ok v
 read_back v room s e = read_write a6_layout v room s (sym (by_number (write_number v room) _ _) ∙ e)

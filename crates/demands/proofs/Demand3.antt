@@ -6,7 +6,10 @@ use lib.ListN.{length}
 use contract.Lifetimes.{Lfts}
 use denote.Ref.{Bor}
 use denote.MutBor.{MutBor}
-use Rattle.plan.specs.declared.Reply.{Reply}
+use Rattle.std.specs.Prelude.{Result}
+use Rattle.octets.specs.declared.Done.{Done}
+use Rattle.plan.specs.declared.Refused.{Refused}
+use Rattle.plan.specs.Faults.{replied}
 use Rattle.collapse.specs.Demand3.{gives, Demand3}
 use Rattle.collapse.proofs.collapse.Reads as collapse
 use Rattle.collapse.proofs.Contract.{learnt}
@@ -17,8 +20,8 @@ pub kept : Demand3
 kept = demand3
 
 -- what a caller of the running `collapse` learns of its answer and its output is what the demand says that a call gives
-pub running : (κs : Lfts 3) (table name : Bor (List ℕ)) (out end : MutBor (List ℕ)) (r : Reply)
+pub running : (κs : Lfts 3) (table name : Bor (List ℕ)) (out end : MutBor (List ℕ)) (r : Result Done Refused)
     → collapse.Learnt κs (table, (name, (out, tt))) r (table, (name, (end, tt)))
-    → (r.answer, end.now) ≡ gives table.now (record { name = name.now; size = length out.now })
+    → ((replied r).answer, end.now) ≡ gives table.now (record { name = name.now; size = length out.now })
 unfolding gives
 running κs table name out end r h = learnt κs table name out end r h

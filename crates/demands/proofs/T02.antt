@@ -5,6 +5,7 @@ use mathlib.Core.Logic.{◌↔◌}
 use mathlib.Core.List.{List, [], ◌∷◌, ◌++◌}
 use lib.ListN.{length, get_or, take}
 use native.Mathlib.Omega.{arith}
+use Rattle.std.specs.Prelude.{Ok}
 use contract.Lifetimes.{Lfts}
 use denote.Ref.{Bor}
 use denote.MutBor.{MutBor}
@@ -16,10 +17,8 @@ use Rattle.a6.specs.Read.{read_number, value_of, read_of}
 use Rattle.a6.specs.Write.{data_of, write_number, write_answer, write_out}
 use Rattle.a6.specs.Standard.{standard_data}
 use Rattle.a6.specs.declared.Value.{Value}
-use Rattle.a6.specs.declared.Reading.{Reading}
-use Rattle.a6.proofs.EndingLaws.{reading_number, reading_done}
 use Rattle.a6.proofs.AcceptedLaws.{write_done}
-use Rattle.a6.proofs.Layouts.{write_read, read_write, standard_again, way_round, given_other}
+use Rattle.a6.proofs.Layouts.{gives, write_read, read_write, standard_again, way_round, given_other}
 use Rattle.a6.proofs.RoundTrip.{a6_layout}
 use Rattle.draft.specs.Read.{draft_number, draft_value, draft_reading}
 use Rattle.draft.specs.Write.{draft_data, draft_write_number, draft_answer, draft_out}
@@ -43,41 +42,41 @@ in_a6 v room = take (write_answer v room).count (write_out v room)
 
 -- A6 data that is accepted, written in the 1998 layout where there is room, is taken there and reads as the same value; and that, written as A6 data, is the
 -- standard form of the data, octet for octet, with zeros after it
-pub through_1998 : (octets : List ℕ) (between room : ℕ) → Small octets → (read_of octets).number ≡ 0 → length (draft_data (read_of octets).value) ≤ between → length (standard_data octets) ≤ room
-    → ((draft_answer (read_of octets).value between).number ≡ 0)
-    × (draft_reading (in1998 (read_of octets).value between) ≡ read_of octets)
-    × (write_answer (draft_reading (in1998 (read_of octets).value between)).value room ≡ answering (length (standard_data octets)) 0)
-    × (write_out (draft_reading (in1998 (read_of octets).value between)).value room ≡ standard_data octets ++ blank (room - length (standard_data octets)))
-through_1998 octets between room s e l m = way_round a6_layout draft_layout octets between room s (sym (reading_number (read_number octets) (value_of octets)) ∙ e) l m
+pub through_1998 : (octets : List ℕ) (v : Value) (between room : ℕ) → Small octets → read_of octets ≡ Ok v → length (draft_data v) ≤ between → length (standard_data octets) ≤ room
+    → ((draft_answer v between).number ≡ 0)
+    × (draft_reading (in1998 v between) ≡ Ok v)
+    × (write_answer v room ≡ answering (length (standard_data octets)) 0)
+    × (write_out v room ≡ standard_data octets ++ blank (room - length (standard_data octets)))
+through_1998 = way_round a6_layout draft_layout
 
 -- and the other way round
-pub through_a6 : (octets : List ℕ) (between room : ℕ) → Small octets → (draft_reading octets).number ≡ 0 → length (data_of (draft_reading octets).value) ≤ between → length (draft_standard octets) ≤ room
-    → ((write_answer (draft_reading octets).value between).number ≡ 0)
-    × (read_of (in_a6 (draft_reading octets).value between) ≡ draft_reading octets)
-    × (draft_answer (read_of (in_a6 (draft_reading octets).value between)).value room ≡ answering (length (draft_standard octets)) 0)
-    × (draft_out (read_of (in_a6 (draft_reading octets).value between)).value room ≡ draft_standard octets ++ blank (room - length (draft_standard octets)))
-through_a6 octets between room s e l m = way_round draft_layout a6_layout octets between room s (sym (reading_number (draft_number octets) (draft_value octets)) ∙ e) l m
+pub through_a6 : (octets : List ℕ) (v : Value) (between room : ℕ) → Small octets → draft_reading octets ≡ Ok v → length (data_of v) ≤ between → length (draft_standard octets) ≤ room
+    → ((write_answer v between).number ≡ 0)
+    × (read_of (in_a6 v between) ≡ Ok v)
+    × (draft_answer v room ≡ answering (length (draft_standard octets)) 0)
+    × (draft_out v room ≡ draft_standard octets ++ blank (room - length (draft_standard octets)))
+through_a6 = way_round draft_layout a6_layout
 
 -- ---- each undoes itself
 -- data of the 1998 layout that is accepted, written back, is its own standard form with zeros after it
-pub write_back : (octets : List ℕ) (room : ℕ) → Small octets → (draft_reading octets).number ≡ 0 → length (draft_standard octets) ≤ room
-    → (draft_answer (draft_reading octets).value room ≡ answering (length (draft_standard octets)) 0)
-    × (draft_out (draft_reading octets).value room ≡ draft_standard octets ++ blank (room - length (draft_standard octets)))
-write_back octets room s e l = write_read draft_layout octets room s (sym (reading_number (draft_number octets) (draft_value octets)) ∙ e) l
+pub write_back : (octets : List ℕ) (v : Value) (room : ℕ) → Small octets → draft_reading octets ≡ Ok v → length (draft_standard octets) ≤ room
+    → (draft_answer v room ≡ answering (length (draft_standard octets)) 0)
+    × (draft_out v room ≡ draft_standard octets ++ blank (room - length (draft_standard octets)))
+write_back = write_read draft_layout
 
 -- and a standard form is its own standard form
-pub standard_twice : (octets : List ℕ) → Small octets → (draft_reading octets).number ≡ 0 → draft_standard (draft_standard octets) ≡ draft_standard octets
-standard_twice octets s e = standard_again draft_layout octets s (sym (reading_number (draft_number octets) (draft_value octets)) ∙ e)
+pub standard_twice : (octets : List ℕ) (v : Value) → Small octets → draft_reading octets ≡ Ok v → draft_standard (draft_standard octets) ≡ draft_standard octets
+standard_twice octets v s e = standard_again draft_layout octets s (gives draft_layout octets v e).0
 
 -- what was written and is read back is the value; `Shaped` is what the type of a value gives
-pub read_back : (v : Value) (room : ℕ) → Shaped v → (draft_answer v room).number ≡ 0 → draft_reading (in1998 v room) ≡ record { number = 0; value = v }
+pub read_back : (v : Value) (room : ℕ) → Shaped v → (draft_answer v room).number ≡ 0 → draft_reading (in1998 v room) ≡ Ok v
 read_back v room s e = read_write draft_layout v room s (sym (by_number (draft_write_number v room) _ _) ∙ e)
 
 -- ---- both readers accept the same values
 -- a value comes out of one reader, for some octets, exactly when it comes out of the other, for some octets
 pub same_values : (v : Value)
-    → ((octets : List ℕ) × Small octets × (read_of octets ≡ record { number = 0; value = v }))
-    ↔ ((octets : List ℕ) × Small octets × (draft_reading octets ≡ record { number = 0; value = v }))
+    → ((octets : List ℕ) × Small octets × (read_of octets ≡ Ok v))
+    ↔ ((octets : List ℕ) × Small octets × (draft_reading octets ≡ Ok v))
 same_values v = (given_other a6_layout draft_layout v, given_other draft_layout a6_layout v)
 
 -- ---- room
@@ -130,14 +129,14 @@ module _ (first : Bor (List ℕ)) (value kept : MutBor (List ℕ)) (r1 : ℕ) (�
       ∙ (λ i. take (get_or ((l2.1.1 ∙ (λ j. exported_figures (done2 j) (draft_answer (taken j) (length out.now)) (length figures.now))) i) 0 0) ((l2.1.0 ∙ (λ j. out_by (done2 j) (draft_data (taken j)) (length out.now)) ∙ ap (λ (k : ℕ). out_by k (draft_data v) (length out.now)) (sym written)) i))
 
   -- and read again
-  gives : draft_reading second.now ≡ record { number = 0; value = v }
-  gives = ap draft_reading crossed ∙ read_write draft_layout v (length out.now) shaped written
+  reads : draft_reading second.now ≡ Ok v
+  reads = ap draft_reading crossed ∙ read_write draft_layout v (length out.now) shaped written
 
   crossing : draft_number second.now ≡ 0
-  crossing = sym (reading_number (draft_number second.now) (draft_value second.now)) ∙ ap (λ (r : Reading). r.number) gives
+  crossing = (gives draft_layout second.now v reads).0
 
   same : draft_value second.now ≡ v
-  same = ap (λ (r : Reading). r.value) (reading_done (draft_number second.now) (draft_value second.now) crossing ∙ gives)
+  same = (gives draft_layout second.now v reads).1
 
   read_again : r3 ≡ 0
   read_again = l3.0 ∙ read_right (length again.now) (draft_number second.now) sized ∙ crossing

@@ -16,9 +16,12 @@ use Rattle.octets.proofs.AnswerLaws.{refused_out, by_number}
 use Rattle.labels.specs.Scan.{well_formed}
 use Rattle.plan.specs.Layout.{address_size}
 use Rattle.plan.specs.Check.{owner_field, check_of, entry_number}
-use Rattle.plan.specs.Faults.{fault_in, replying, FaultAt, RepeatAt, Placed}
+use Rattle.plan.specs.Faults.{fault_in, replying, replied, judged, FaultAt, RepeatAt, Placed}
 use Rattle.plan.specs.declared.Fault.{Fault}
+use Rattle.octets.specs.declared.Done.{Done}
+use Rattle.plan.specs.declared.Refused.{Refused}
 use Rattle.plan.specs.declared.Reply.{Reply}
+use Rattle.std.specs.Prelude.{Result}
 use Rattle.plan.proofs.PlaceLaws.{place_two, place_three, fault_other}
 use Rattle.plan.proofs.check.Reads as plan_check
 use Rattle.forward.proofs.lookup.Reads as forward
@@ -54,22 +57,22 @@ numbered t k count work e p = rw (e, by_number k count work) p
 
 -- ---- each operation on a table hands the fault on
 -- of the reply of `plan::check`, as its caller learns it: at 2 and at 3 the fault is the place, and with any other number zeros
-pub check : (κs : Lfts 1) (table : Bor (List ℕ)) (r : Reply) → plan_check.Learnt κs (table, tt) r (table, tt) → Placed table.now r.answer.number r.fault
+pub check : (κs : Lfts 1) (table : Bor (List ℕ)) (r : Result (Unit {0}) Refused) → plan_check.Learnt κs (table, tt) r (table, tt) → Placed table.now (judged r).answer.number (judged r).fault
 check κs table r l = rw l (check_placed table.now)
 
 -- so of the reply of `forward::lookup`
-pub lookup : (κs : Lfts 4) (table name : Bor (List ℕ)) (out end ttls left : MutBor (List ℕ)) (limit : ℕ) (r : Reply)
-    → forward.Learnt κs (table, (name, (limit, (out, (ttls, tt))))) r (table, (name, (limit, (end, (left, tt))))) → Placed table.now r.answer.number r.fault
+pub lookup : (κs : Lfts 4) (table name : Bor (List ℕ)) (out end ttls left : MutBor (List ℕ)) (limit : ℕ) (r : Result Done Refused)
+    → forward.Learnt κs (table, (name, (limit, (out, (ttls, tt))))) r (table, (name, (limit, (end, (left, tt))))) → Placed table.now (replied r).answer.number (replied r).fault
 lookup κs table name out end ttls left limit r l = numbered table.now _ _ _ l.0 (lookup_placed table.now name.now limit (length out.now) (length ttls.now))
 
 -- so of the reply of `reverse::lookup`
-pub reverse : (κs : Lfts 3) (table address : Bor (List ℕ)) (out end : MutBor (List ℕ)) (limit : ℕ) (r : Reply)
-    → reversed.Learnt κs (table, (address, (limit, (out, tt)))) r (table, (address, (limit, (end, tt)))) → Placed table.now r.answer.number r.fault
+pub reverse : (κs : Lfts 3) (table address : Bor (List ℕ)) (out end : MutBor (List ℕ)) (limit : ℕ) (r : Result Done Refused)
+    → reversed.Learnt κs (table, (address, (limit, (out, tt)))) r (table, (address, (limit, (end, tt)))) → Placed table.now (replied r).answer.number (replied r).fault
 reverse κs table address out end limit r l = numbered table.now _ _ _ l.0 (reverse_placed table.now address.now limit (length out.now))
 
 -- so of the reply of `collapse::collapse`
-pub collapse : (κs : Lfts 3) (table name : Bor (List ℕ)) (out end : MutBor (List ℕ)) (r : Reply)
-    → collapsed.Learnt κs (table, (name, (out, tt))) r (table, (name, (end, tt))) → Placed table.now r.answer.number r.fault
+pub collapse : (κs : Lfts 3) (table name : Bor (List ℕ)) (out end : MutBor (List ℕ)) (r : Result Done Refused)
+    → collapsed.Learnt κs (table, (name, (out, tt))) r (table, (name, (end, tt))) → Placed table.now (replied r).answer.number (replied r).fault
 collapse κs table name out end r l = numbered table.now _ _ _ l.0 (collapse_placed table.now name.now (length out.now))
 
 -- ---- and so at the C interface

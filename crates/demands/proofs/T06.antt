@@ -15,6 +15,7 @@ use denote.MutBor.{MutBor}
 use borrow.Author.Tests.{not-false, le-ltb}
 use Rattle.octets.specs.Octets.{blank, Small, among}
 use Rattle.octets.specs.declared.Answer.{Answer}
+use Rattle.std.specs.Prelude.{Some, Ok}
 use Rattle.octets.specs.Answers.{answering, answer_by, out_by}
 use Rattle.octets.proofs.AnswerLaws.{earns_zero, earns_not, else_from, by_number}
 use Rattle.plan.specs.Layout.{record_size, address_of}
@@ -61,12 +62,12 @@ number_found = decimal_stands
 
 -- an address that was written into a line, before something that may not stand in one, is read from its place
 pub address_found : (before a rest : List ℕ) → length a ≡ 16 → Small a → address_count rest ≡ 0
-    → address_at (before ++ (write_address a ++ rest)) (length before) ≡ record { formed = true; address = a; next = length before + length (write_address a) }
+    → address_at (before ++ (write_address a ++ rest)) (length before) ≡ record { address = Some a; next = length before + length (write_address a) }
 address_found = texts.address_found
 
 -- a name in standard form that was written into a line, before something that may not stand in one, is read from its place
 pub name_found_lem : (before name rest : List ℕ) → Small name → in_standard_form name ≡ true → leading may_name rest ≡ 0
-    → ◌≡◌ {A = Named} (name_at (before ++ (text_of name ++ rest)) (length before)) (record { number = 0; name = name_of name; next = length before + length (text_of name) })
+    → ◌≡◌ {A = Named} (name_at (before ++ (text_of name ++ rest)) (length before)) (record { name = Ok (name_of name); next = length before + length (text_of name) })
 name_found_lem = names.name_found_lem
 
 -- the text of an address is one that RFC 5952 allows, and the only one
