@@ -7,7 +7,7 @@ use mathlib.Core.Logic.{◌↔◌}
 use mathlib.Core.Bool.{Bool, true, false}
 use mathlib.Core.List.{List, []}
 use lib.Dec.{ltb, eqb}
-use lib.ListN.{length, drop}
+use lib.ListN.{length, take, drop}
 use borrow.Author.Tests.{ne_eqb, eqb-true, eqb-false, ltb-true, ltb-false}
 use contract.Lifetimes.{Lfts}
 use denote.Ref.{Bor}
@@ -43,7 +43,7 @@ use Rattle.address.proofs.is_clear.Reads as is_clear
 use Rattle.labels.specs.Scan as scans
 use Rattle.labels.specs.Scan.{scan_of, well_formed}
 use Rattle.names.specs.Standard.{standard_of, in_standard_form}
-use Rattle.names.specs.Name.{held, held_of}
+use Rattle.names.specs.Name.{name_of, held, held_of}
 use Rattle.labels.specs.Answers.{scanned, used_by, standard_by}
 use Rattle.labels.proofs.NumberLaws.{scan_number}
 use Rattle.names.specs.Answers.{standard_number, standard_answer, standard_out}
@@ -53,6 +53,8 @@ use Rattle.names.proofs.standard_form.Reads as standard_form
 use Rattle.labels.proofs.scan.Reads as scan
 use Rattle.names.proofs.is_standard.Reads as is_standard
 use Rattle.names.proofs.hold.Reads as hold
+use Rattle.names.proofs.Name.none.Reads as none
+use Rattle.names.proofs.Name.as_slice.Reads as as_slice
 use Rattle.text.specs.Digits.{digit_in}
 use Rattle.text.specs.Decimal.{write_decimal, decimal_at}
 use Rattle.text.specs.AddressText.{is_address, write_address}
@@ -186,6 +188,13 @@ names_is_standard κs name r = plainly
 
 pub names_hold : (κs : Lfts 1) (name : Bor (List ℕ)) (r : Option Name) → Promises (hold.Asked κs) (hold.Learnt κs) (name, tt) r (name, tt) ((held r ≡ held_of name.now) × (is_some r ≡ well_formed name.now))
 names_hold κs name r = plainly
+
+pub names_none : (κs : Lfts 0) (r : Name) → Promises (none.Asked κs) (none.Learnt κs) tt r tt (r ≡ name_of [])
+names_none κs r = plainly
+
+pub names_as_slice : (κs : Lfts 1) (name : Bor Name) (r : Bor (List ℕ))
+    → Promises (as_slice.Asked κs) (as_slice.Learnt κs) (name, tt) r (name, tt) (r.now ≡ take name.now.length name.now.octets)
+names_as_slice κs name r = plainly
 
 -- ---- text and nametext
 pub text_write_decimal : (κs : Lfts 1) (n : ℕ) (out end : MutBor (List ℕ)) (r : Result Done Refusal)

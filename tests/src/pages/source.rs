@@ -218,15 +218,32 @@ pub fn public_functions(of: &str) -> Vec<Function> {
     public_files(of).iter().flat_map(|(module, file)| functions_in(module, &text_of(file))).collect()
 }
 
-/// The public functions of a file.
+/// The type of a block of methods, where a line begins one.
+fn methods_of(line: &str) -> Option<&str> {
+    let rest = line.strip_prefix("impl")?.strip_suffix(" {")?;
+    let head = rest.rsplit_once("> ").map_or(rest, |(_, head)| head).trim();
+    let is_one = !rest.contains(" for ");
+    is_one.then(|| head.split('<').next().expect("a name"))
+}
+
+/// The public functions of a file, and the public methods of its types.
 pub fn functions_in(module: &str, text: &str) -> Vec<Function> {
     let mut functions = Vec::new();
     let mut comment = String::new();
+    let mut of = None;
     let mut lines = text.lines();
-    while let Some(line) = lines.next() {
+    while let Some(whole) = lines.next() {
+        let indented = whole.starts_with("    ") && of.is_some();
+        let margin = if indented { "    " } else { "" };
+        let line = whole.strip_prefix(margin).expect("a margin");
+        if !indented && !whole.is_empty() {
+            of = methods_of(line);
+        }
         if let Some(head) = line.strip_prefix("pub fn ").or_else(|| line.strip_prefix("pub extern \"C\" fn ")) {
-            let name = head.split(['(', '<']).next().expect("a name").to_owned();
-            let rest: Vec<&str> = lines.by_ref().take_while(|line| *line != "{").collect();
+            let name = head.split(['(', '<']).next().expect("a name");
+            let name = of.map_or(name.to_owned(), |of: &str| format!("{of}::{name}"));
+            let end = format!("{margin}{{");
+            let rest: Vec<&str> = lines.by_ref().take_while(|line| *line != end).collect();
             let begins = |line: &&str| ["requires ", "ensures "].iter().any(|word| line.trim().starts_with(word));
             let contract: Vec<&str> = rest.into_iter().skip_while(|line| !begins(line)).collect();
             let comment = std::mem::take(&mut comment);
