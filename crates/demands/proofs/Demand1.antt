@@ -5,12 +5,18 @@ use Prim.Native.Nat.{ℕ, zero, suc, ◌+◌, ◌≤◌, ◌<◌, min}
 use mathlib.Core.Path.{◌≡◌, refl, ap, ◌∙◌, sym}
 use mathlib.Core.Logic.{◌↔◌}
 use mathlib.Core.Bool.{Bool, true, false}
-use mathlib.Core.List.{List, []}
+use mathlib.Core.List.{List, [], not-mem-nil}
 use lib.Dec.{ltb, eqb}
 use lib.ListN.{length, take, drop}
-use borrow.Author.Tests.{ne_eqb, eqb-true, eqb-false, ltb-true, ltb-false}
+use borrow.Author.Tests.{eqb-true, eqb-false, ltb-true, ltb-false}
 use contract.Lifetimes.{Lfts}
+use denote.Builtin.{u8, u32}
+use denote.Param.Laws.{Laws, IsCopy}
 use denote.Ref.{Bor}
+use mir.Syntax.{Dict}
+use Rattle.std.specs.declared.clone.Clone.{Ghosts}
+use Rattle.octets.specs.contracts.U8Zero.TheImpl as zeros-u8
+use Rattle.octets.specs.contracts.U32Zero.TheImpl as zeros-u32
 use denote.MutBor.{MutBor}
 use Rattle.octets.specs.Octets.{blank, same, flat}
 use Rattle.octets.specs.Zeros.{is_blank}
@@ -18,15 +24,15 @@ use Rattle.octets.specs.Numbers.{octets_of}
 use Rattle.octets.specs.Answers.{refusal, answer_by, out_by}
 use Rattle.octets.proofs.AnswerLaws.{refused_out, by_number}
 use Rattle.octets.proofs.SmallLaws.{get_or_blank}
-use Rattle.octets.proofs.BoolLaws.{clash}
 use Rattle.octets.proofs.equal.Reads as equal
 use Rattle.octets.specs.declared.Answer.{Answer}
 use Rattle.octets.specs.declared.Done.{Done}
 use Rattle.octets.specs.declared.Refusal.{Refusal}
 use Rattle.octets.specs.declared.Refusal.TheVariants.{Prefix, Short, LeftOver}
-use Rattle.octets.specs.Refusals.{code_of, told, number_of, answered}
+use Rattle.octets.specs.Refusals.{code_of, told, answered}
+use Rattle.octets.specs.Refusals as refusals
 use Rattle.octets.proofs.RefusalLaws.{Known, known_zero, known_code, known_earned, known_else, known_result}
-use Rattle.std.specs.Prelude.{Option, Some, None, Result, Ok, Err, is_some}
+use Rattle.std.specs.Prelude.{Option, None, Result, Ok, Err, is_some}
 use Rattle.octets.proofs.refused.Reads as refused
 use Rattle.octets.proofs.clear.Reads as clear
 use Rattle.octets.proofs.wide.Reads as wide
@@ -133,9 +139,15 @@ plainly = (tt, (λ h. h, λ h. h))
 pub octets_refused : (κs : Lfts 0) (number : ℕ) (r : Answer) → Promises (refused.Asked κs) (refused.Learnt κs) (number, tt) r (number, tt) (r ≡ refusal number)
 octets_refused κs number r = plainly
 
--- of octets
-pub octets_clear : (κs : Lfts 1) (out end : MutBor (List ℕ)) → Promises (clear.Asked κs) (clear.Learnt κs) (out, tt) tt (end, tt) (end.now ≡ blank (length out.now))
-octets_clear κs out end = plainly
+-- of a list of octets; of `laws`, `copy`, `clone` and both `d` and `e`, by which the element's type comes, nothing depends
+pub octets_clear : (laws : Laws u8) (copy : IsCopy u8) (clone : Ghosts ℕ) (d e : Dict) (κs : Lfts 2) (out end : MutBor (List ℕ))
+    → Promises (clear.Asked u8 laws copy zeros-u8.ghosts d clone e κs) (clear.Learnt u8 laws copy zeros-u8.ghosts d clone e κs) (out, tt) tt (end, tt) (end.now ≡ blank (length out.now))
+octets_clear laws copy clone d e κs out end = (λ a m. absurd (not-mem-nil m), (λ h. h, λ h. h))
+
+-- and of a list of numbers of 32 bits
+pub octets_numbers_clear : (laws : Laws u32) (copy : IsCopy u32) (clone : Ghosts ℕ) (d e : Dict) (κs : Lfts 2) (list end : MutBor (List ℕ))
+    → Promises (clear.Asked u32 laws copy zeros-u32.ghosts d clone e κs) (clear.Learnt u32 laws copy zeros-u32.ghosts d clone e κs) (list, tt) tt (end, tt) (end.now ≡ blank (length list.now))
+octets_numbers_clear laws copy clone d e κs list end = (λ a m. absurd (not-mem-nil m), (λ h. h, λ h. h))
 
 pub octets_equal : (κs : Lfts 2) (a b : Bor (List ℕ)) (r : Bool) → Promises (equal.Asked κs) (equal.Learnt κs) (a, (b, tt)) r (a, (b, tt)) (r ≡ same a.now b.now)
 octets_equal κs a b r = plainly
@@ -149,10 +161,6 @@ octets_is_blank κs s from r = plainly
 
 pub octets_quarter_octets : (κs : Lfts 0) (v : ℕ) (r : List ℕ) → Promises (quarter_octets.Asked κs) (quarter_octets.Learnt κs) (v, tt) r (v, tt) (r ≡ octets_of 4 v)
 octets_quarter_octets κs v r = plainly
-
-pub octets_numbers_clear : (κs : Lfts 1) (list end : MutBor (List ℕ))
-    → Promises (numbers-clear.Asked κs) (numbers-clear.Learnt κs) (list, tt) tt (end, tt) (end.now ≡ blank (length list.now))
-octets_numbers_clear κs list end = plainly
 
 pub octets_lesser : (κs : Lfts 0) (a b r : ℕ) → Promises (lesser.Asked κs) (lesser.Learnt κs) (a, (b, tt)) r (a, (b, tt)) (r ≡ min a b)
 octets_lesser κs a b r = plainly
@@ -381,15 +389,15 @@ pub standard_clears : (name : List ℕ) (room : ℕ) → Cleared (standard_answe
 standard_clears name room = by_number_clears _ _ _ _ room
 
 -- a refused scan has used nothing, and has the number of its reading
-pub scan_clears : (xs : List ℕ) → (number_of (scanned (scan_of xs)) ≡ 0 → ⊥) → (used_by (scanned (scan_of xs)) ≡ 0) × (standard_by (scanned (scan_of xs)) ≡ false)
+pub scan_clears : (xs : List ℕ) → (refusals.number_of (scanned (scan_of xs)) ≡ 0 → ⊥) → (used_by (scanned (scan_of xs)) ≡ 0) × (standard_by (scanned (scan_of xs)) ≡ false)
 unfolding scanned
 scan_clears xs = go (scan_of xs)
   where
-    go : (r : scans.Reading) → (number_of (scanned r) ≡ 0 → ⊥) → (used_by (scanned r) ≡ 0) × (standard_by (scanned r) ≡ false)
+    go : (r : scans.Reading) → (refusals.number_of (scanned r) ≡ 0 → ⊥) → (used_by (scanned r) ≡ 0) × (standard_by (scanned r) ≡ false)
     go (scans.refused n) h = (refl, refl)
     go (scans.done ls used) h = absurd (h refl)
 
-pub scan_told : (xs : List ℕ) (n : ℕ) → scan_of xs ≡ scans.refused n → number_of (scanned (scan_of xs)) ≡ n
+pub scan_told : (xs : List ℕ) (n : ℕ) → scan_of xs ≡ scans.refused n → refusals.number_of (scanned (scan_of xs)) ≡ n
 scan_told = scan_number
 
 -- a refused reading gives the refusal of its number, and no value
@@ -448,8 +456,8 @@ unfolding name_at
 read_name_clears s from h = go (name_told (name_part s from)) refl
   where
     go : (r : Result Name Refusal) → name_told (name_part s from) ≡ r → (e : Refusal) × (name_told (name_part s from) ≡ Err e) × (code_of e ≡ text_number (name_part s from))
-    go (Ok n) f = absurd (h (sym (told_number (name_part s from)) ∙ ap number_of f))
-    go (Err e) f = (e, f, sym (ap number_of f) ∙ told_number (name_part s from))
+    go (Ok n) f = absurd (h (sym (told_number (name_part s from)) ∙ ap refusals.number_of f))
+    go (Err e) f = (e, f, sym (ap refusals.number_of f) ∙ told_number (name_part s from))
 
 -- a refused writing of a line, and a refused reading, has both figures 0 and its output zero
 pub write_line_clears : (row : List ℕ) (room : ℕ) → Cleared (write_line_answer row room) (write_line_out row room) room

@@ -4,7 +4,10 @@ use mathlib.Core.Path.{◌≡◌, refl}
 use mathlib.Core.List.{List, [], ◌∷◌, ◌++◌, map}
 use lib.ListN.{replicate}
 use Rattle.octets.specs.Octets.{blank, same_by, flat}
+use Rattle.std.specs.Prelude.{Result, Ok, Err}
 use Rattle.octets.specs.declared.Answer.{Answer}
+use Rattle.octets.specs.declared.Refusal.{Refusal}
+use Rattle.octets.specs.Refusals.{code_of}
 use Rattle.address.specs.Address.{bit_at}
 use Rattle.address.specs.Order.{order_of}
 use Rattle.names.specs.Name.{name_of}
@@ -64,14 +67,19 @@ answered a out = record { number = a.number; figures = a.count ∷ a.work ∷ []
 found : Answer → List ℕ → List ℕ → Outcome
 found a out ttls = record { number = a.number; figures = a.count ∷ a.work ∷ []; output = out; ttls = ttls }
 
+-- what is read: a value as octets, or a refusal and zeros
+told : Result Value Refusal → Outcome
+told (Ok v) = record { number = 0; figures = []; output = value_octets v; ttls = [] }
+told (Err e) = record { number = code_of e; figures = []; output = blank value_size; ttls = [] }
+
 -- what the public functions answer and write, by their definitions (Demand1)
 outcome : Input → Outcome
-unfolding answered found
+unfolding answered found told
 outcome (lookup table name limit room) =
     let size = room * address_size in
     found (lookup_answer table name limit size room) (lookup_out table name limit size room) (lookup_ttls table name limit size room)
 outcome (collapse table name size) = answered (collapse_answer table name size) (collapse_out table name size)
-outcome (read octets) = record { number = (read_of octets).number; figures = []; output = value_octets (read_of octets).value; ttls = [] }
+outcome (read octets) = told (read_of octets)
 outcome (write value size) = answered (write_answer value size) (write_out value size)
 
 pub given : Case → Outcome

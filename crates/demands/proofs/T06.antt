@@ -15,7 +15,10 @@ use denote.MutBor.{MutBor}
 use borrow.Author.Tests.{not-false, le-ltb}
 use Rattle.octets.specs.Octets.{blank, Small, among}
 use Rattle.octets.specs.declared.Answer.{Answer}
-use Rattle.std.specs.Prelude.{Some, Ok}
+use Rattle.std.specs.Prelude.{Some, Result, Ok}
+use Rattle.octets.specs.declared.Done.{Done}
+use Rattle.octets.specs.declared.Refusal.{Refusal}
+use Rattle.octets.specs.Refusals.{answered}
 use Rattle.octets.specs.Answers.{answering, answer_by, out_by}
 use Rattle.octets.proofs.AnswerLaws.{earns_zero, earns_not, else_from, by_number}
 use Rattle.plan.specs.Layout.{record_size, address_of}
@@ -154,9 +157,9 @@ module _ (row : List ℕ) (room : ℕ) (e : write_line_number row room ≡ 0) wh
 
 -- Two calls, by what their caller learns: a record is written as a line, and the octets that were written are read with room for a record. `Small` is what
 -- the type of octets gives.
-module _ (row : Bor (List ℕ)) (out end : MutBor (List ℕ)) (r1 : Answer) (κ1 : Lfts 2) (l1 : write_line.Learnt κ1 (row, (out, tt)) r1 (row, (end, tt))) (done1 : r1.number ≡ 0) (small : Small row.now)
-    (line : Bor (List ℕ)) (room left : MutBor (List ℕ)) (r2 : Answer) (κ2 : Lfts 2) (l2 : read_line.Learnt κ2 (line, (room, tt)) r2 (line, (left, tt)))
-    (between : line.now ≡ take r1.count end.now) (sized : record_size ≤ length room.now) where
+module _ (row : Bor (List ℕ)) (out end : MutBor (List ℕ)) (r1 : Result Done Refusal) (κ1 : Lfts 2) (l1 : write_line.Learnt κ1 (row, (out, tt)) r1 (row, (end, tt))) (done1 : (answered r1).number ≡ 0) (small : Small row.now)
+    (line : Bor (List ℕ)) (room left : MutBor (List ℕ)) (r2 : Result Done Refusal) (κ2 : Lfts 2) (l2 : read_line.Learnt κ2 (line, (room, tt)) r2 (line, (left, tt)))
+    (between : line.now ≡ take (answered r1).count end.now) (sized : record_size ≤ length room.now) where
   written : write_line_number row.now (length out.now) ≡ 0
   written = sym (by_number (write_line_number row.now (length out.now)) _ _) ∙ ap (λ (a : Answer). a.number) (sym l1.0) ∙ done1
 
@@ -164,7 +167,7 @@ module _ (row : Bor (List ℕ)) (out end : MutBor (List ℕ)) (r1 : Answer) (κ1
   crossed = between ∙ (λ i. take (l1.0 i).count (l1.1 i)) ∙ written_line row.now (length out.now) written
 
   -- what `write_line` wrote, `read_line` reads: one record, the one that was written, with zeros after it
-  pub written_running : (r2 ≡ answering 1 0) × (left.now ≡ row.now ++ blank (length room.now - record_size))
+  pub written_running : (answered r2 ≡ answering 1 0) × (left.now ≡ row.now ++ blank (length room.now - record_size))
   written_running =
       let w = read_written row.now small (written_one row.now (length out.now) written) (length room.now) sized in
       (l2.0 ∙ ap (λ (xs : List ℕ). read_line_answer xs (length room.now)) crossed ∙ w.0, l2.1 ∙ ap (λ (xs : List ℕ). read_line_out xs (length room.now)) crossed ∙ w.1)
