@@ -95,53 +95,37 @@ fn rest_words(body: &[u8], from: usize, prefix: Result<u32, Refusal>) -> Result<
 {
     let at = pass(body, from);
     match prefix {
-        Ok(0) => finished(body, from, at),
-        Ok(128) if word_end(body, at) == body.len() => bare(body, from, at),
-        _ => full(body, from, at, prefix),
+        // The address alone.
+        Ok(0) => {
+            let address = address_word(body, at)?;
+            if address.next != body.len() {
+                return Err(Refusal::Form);
+            }
+            Ok(Rest {
+                address: address.value?,
+                target: Ok(Name::none()),
+            })
+        }
+        // The target alone: the address is left out.
+        Ok(128) if word_end(body, at) == body.len() => {
+            let target = name_word(body, at)?;
+            Ok(Rest {
+                address: [0u8; 16],
+                target: target.value,
+            })
+        }
+        _ => {
+            let address = address_word(body, at)?;
+            let target = name_word(body, pass(body, address.next))?;
+            if target.next != body.len() {
+                return Err(Refusal::Form);
+            }
+            Ok(Rest {
+                address: address.value?,
+                target: target.value,
+            })
+        }
     }
-}
-
-// An address alone.
-fn finished(body: &[u8], from: usize, at: usize) -> Result<Rest, Refusal>
-    requires { (from ≤ length body.now) × (at ≡ passed body.now from) }
-    ensures { RestAt body.now from 0 result }
-{
-    let word = address_word(body, at)?;
-    if word.next != body.len() {
-        return Err(Refusal::Form);
-    }
-    Ok(Rest {
-        address: word.value?,
-        target: Ok(Name::none()),
-    })
-}
-
-// A target alone.
-fn bare(body: &[u8], from: usize, at: usize) -> Result<Rest, Refusal>
-    requires { (from ≤ length body.now) × (at ≡ passed body.now from) × (word_end body.now at ≡ length body.now) }
-    ensures { RestAt body.now from 128 result }
-{
-    let word = name_word(body, at)?;
-    Ok(Rest {
-        address: [0u8; 16],
-        target: word.value,
-    })
-}
-
-// An address and a target.
-fn full(body: &[u8], from: usize, at: usize, prefix: Result<u32, Refusal>) -> Result<Rest, Refusal>
-    requires { (from ≤ length body.now) × (at ≡ passed body.now from) × (prefix_in prefix ≡ 0 → ⊥) × (prefix_in prefix ≡ 128 → word_end body.now at < length body.now) }
-    ensures { RestAt body.now from (prefix_in prefix) result }
-{
-    let address = address_word(body, at)?;
-    let target = name_word(body, pass(body, address.next))?;
-    if target.next != body.len() {
-        return Err(Refusal::Form);
-    }
-    Ok(Rest {
-        address: address.value?,
-        target: target.value,
-    })
 }
 
 // The word at a place as a name.
