@@ -388,7 +388,7 @@ refused_counts k count work h = let c = by_number_clears k count work [] 0 (λ e
 pub standard_clears : (name : List ℕ) (room : ℕ) → Cleared (standard_answer name room) (standard_out name room) room
 standard_clears name room = by_number_clears _ _ _ _ room
 
--- a refused scan has used nothing, and has the number of its reading
+-- a refused scan has used nothing
 pub scan_clears : (xs : List ℕ) → (refusals.number_of (scanned (scan_of xs)) ≡ 0 → ⊥) → (used_by (scanned (scan_of xs)) ≡ 0) × (standard_by (scanned (scan_of xs)) ≡ false)
 unfolding scanned
 scan_clears xs = go (scan_of xs)
@@ -397,6 +397,7 @@ scan_clears xs = go (scan_of xs)
     go (scans.refused n) h = (refl, refl)
     go (scans.done ls used) h = absurd (h refl)
 
+-- and it has the number of its reading
 pub scan_told : (xs : List ℕ) (n : ℕ) → scan_of xs ≡ scans.refused n → refusals.number_of (scanned (scan_of xs)) ≡ n
 scan_told = scan_number
 

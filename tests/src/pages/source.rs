@@ -16,9 +16,10 @@ pub struct Import {
 }
 
 impl Import {
-    /// The file of definitions that is imported. What is declared in code stands in the code and has none.
+    /// The file of definitions that is imported. What is declared or promised in code stands in the code and has none.
     pub fn definitions(&self) -> Option<String> {
-        let is_file = self.folder == "specs" && !self.module.starts_with("declared");
+        let of_code = ["declared", "contracts"].iter().any(|folder| self.module.starts_with(folder));
+        let is_file = self.folder == "specs" && !of_code;
         is_file.then(|| format!("crates/{}/specs/{}.antt", self.of, self.module))
     }
 
