@@ -3,7 +3,7 @@ use Prim.Native.Nat.{ℕ, zero, suc, ◌≤◌, ◌<◌}
 use mathlib.Core.Path.{◌≡◌, refl, ap, ◌∙◌, sym}
 use mathlib.Core.Bool.{true}
 use mathlib.Core.List.{List, []}
-use Rattle.std.specs.Prelude.{Result, Ok, Err, IfOk}
+use Rattle.std.specs.Prelude.{Ok, Err}
 use lib.Dec.{ltb}
 use lib.ListN.{length}
 use lib.Seq.{take_all}
@@ -22,8 +22,8 @@ use Rattle.names.specs.Name.{name_of}
 use Rattle.names.proofs.AnswerLaws.{form_good}
 use Rattle.names.proofs.FrontLaws.{scan_inside}
 use Rattle.names.proofs.NameLaws.{held_formed, held_empty}
-use Rattle.a6.specs.Ending.{name_found, name_number, name_octets, name_in, value_from, reading_for}
-use Rattle.a6.specs.Parts.{in_last, value_at, Tells}
+use Rattle.a6.specs.Ending.{name_found, name_number, name_octets, name_in, reading_for}
+use Rattle.a6.specs.Parts.{value_at, Tells}
 use Rattle.a6.specs.declared.Value.{Value}
 use Rattle.a6.specs.declared.parts.Found.{Found}
 
@@ -89,12 +89,6 @@ module _ (l : ℕ) (rest : List ℕ) where
 
     pub ending_whole : length rest ≤ t.used → 0 ≡ name_number l rest
     ending_whole h = let u = ap used_by p in sym (ending_done l rest (sym (ap number_of p)) (omega arith))
-
--- what the tests of a layout say where they end with these parts
-pub tells_parts : (r : Result Found Refusal) (l : ℕ) (suffix name : List ℕ) (number : ℕ) (v : Value) → number_of r ≡ number
-    → IfOk r (λ f. (f.prefix ≡ l) × (f.suffix.now ≡ suffix) × (f.name.now ≡ name)) → value_from l (in_last l suffix) name ≡ v → Tells r number v
-tells_parts (Ok f) l suffix name number v e p w = (e, (λ i. value_from (p.0 i) (in_last (p.0 i) (p.1 i)) (p.2 i)) ∙ w)
-tells_parts (Err x) l suffix name number v e p w = (e, tt)
 
 -- a number that is not 0 refuses, and 0 gives the value
 module _ (k : ℕ) (v : Value) where

@@ -4,6 +4,7 @@ ghost use Rattle.std.specs.Prelude.{◌≡◌, ◌+◌, ◌-◌, ◌%◌, ◌^�
 ghost use Rattle.octets.specs.Octets.{blank};
 ghost use Rattle.octets.specs.Answers.{answer_by, out_by};
 ghost use Rattle.octets.specs.Refusals.{number_of, answered};
+ghost use Rattle.labels.specs.Answers.{standard_by};
 ghost use Rattle.address.specs.Address.{join_of};
 ghost use Rattle.a6.specs.Data.{longest, suffix_octets, octets_of};
 ghost use Rattle.a6.specs.Ending.{name_found, name_number, name_in};
@@ -33,25 +34,27 @@ pub fn check(rdata: &[u8]) -> Result<Found<'_>, Refusal>
     if rdata.len() < rest {
         return Err(Refusal::Short);
     }
-    ending(prefix, &rdata[1..rest], &rdata[rest..])
+    let suffix = &rdata[1..rest];
+    let name = &rdata[rest..];
+    let standard = ending(prefix, name)?;
+    Ok(Found {
+        prefix,
+        suffix,
+        name,
+        standard,
+    })
 }
 
-// How data ends whose other parts are there: the prefix name, if one is due, and nothing after it.
-pub fn ending<'a>(prefix: u8, suffix: &'a [u8], rest: &'a [u8]) -> Result<Found<'a>, Refusal>
-    requires { (prefix ≤ longest) × (length suffix.now ≡ suffix_octets prefix) }
+// How data ends whose other parts are there: the prefix name, if one is due, and nothing after it; and whether that name is in standard form already.
+pub fn ending(prefix: u8, rest: &[u8]) -> Result<bool, Refusal>
     ensures number { number_of result ≡ name_number prefix rest.now }
-    ensures parts { IfOk result (λ f. (f.prefix ≡ prefix) × (f.suffix.now ≡ suffix.now) × (f.name.now ≡ rest.now)) }
+    ensures standard { IfOk result (λ s. s ≡ standard_by (name_found prefix rest.now)) }
 {
     let name = name_found(prefix, rest)?;
     if name.used < rest.len() {
         return Err(Refusal::LeftOver);
     }
-    Ok(Found {
-        prefix,
-        suffix,
-        name: rest,
-        standard: name.standard,
-    })
+    Ok(name.standard)
 }
 
 // What is found of the prefix name: none is due at L = 0.
@@ -73,38 +76,38 @@ impl Found<'_> {
         ensures { result ≡ value_at self.entry }
     {
         let mut address = [0u8; 16];
-        self.put_address(&mut address);
+        put_address(self.prefix, self.suffix, &mut address);
         let mut octets = [0u8; 255];
-        let length = self.put_name(&mut octets);
+        let length = put_name(self.name, self.prefix, self.standard, &mut octets);
         Value {
             prefix: self.prefix,
             address,
             name: names::Name { octets, length },
         }
     }
+}
 
-    // The address over zeros: the suffix in the last of sixteen octets, without the bits before the prefix's end.
-    pub fn put_address(self, out: &mut [u8])
-        requires { out.old ≡ blank 16 }
-        ensures { out.new ≡ join_of (blank 16) (in_last self.entry.prefix self.entry.suffix.now) self.entry.prefix }
-    {
-        let first = 16 - self.suffix.len();
-        out[first..].copy_from_slice(self.suffix);
-        if first < 16 {
-            out[first] = unpadded(out[first], self.prefix % 8);
-        }
+// The address over zeros: the suffix in the last of sixteen octets, without the bits before the prefix's end.
+pub fn put_address(prefix: u8, suffix: &[u8], out: &mut [u8])
+    requires { (prefix ≤ longest) × (length suffix.now ≡ suffix_octets prefix) × (out.old ≡ blank 16) }
+    ensures { out.new ≡ join_of (blank 16) (in_last prefix suffix.now) prefix }
+{
+    let first = 16 - suffix.len();
+    out[first..].copy_from_slice(suffix);
+    if first < 16 {
+        out[first] = unpadded(out[first], prefix % 8);
     }
+}
 
-    // The name in standard form over zeros, and its length; none at L = 0.
-    pub fn put_name(self, out: &mut [u8]) -> u8
-        requires { out.old ≡ blank 255 }
-        ensures { (out.new ≡ (name_in self.entry.prefix self.entry.name.now).octets) × (result ≡ (name_in self.entry.prefix self.entry.name.now).length) }
-    {
-        if self.prefix == 0 {
-            return 0;
-        }
-        names::inside::put_standard(self.name, self.standard, out) as u8
+// The name of data that ends well, in standard form over zeros, and its length; none at L = 0. `standard` is what the tests say of it.
+pub fn put_name(name: &[u8], prefix: u8, standard: bool, out: &mut [u8]) -> u8
+    requires { (name_number prefix name.now ≡ 0) × (standard ≡ standard_by (name_found prefix name.now)) × (out.old ≡ blank 255) }
+    ensures { (out.new ≡ (name_in prefix name.now).octets) × (result ≡ (name_in prefix name.now).length) }
+{
+    if prefix == 0 {
+        return 0;
     }
+    names::inside::put_standard(name, standard, out) as u8
 }
 
 // The data of a value, with zeros after it, and its length, in the layout that has `before` octets of the address before the prefix length, and behind it those

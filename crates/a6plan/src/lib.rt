@@ -195,8 +195,8 @@ fn put_value(found: Found, value: &mut [u8])
     requires { value.old ≡ blank value_size }
     ensures { value.new ≡ value_octets (value_at found.entry) }
 {
-    found.put_address(&mut value[1..17]);
-    let length = found.put_name(&mut value[18..]);
+    a6::inside::put_address(found.prefix, found.suffix, &mut value[1..17]);
+    let length = a6::inside::put_name(found.name, found.prefix, found.standard, &mut value[18..]);
     value[0] = found.prefix;
     value[17] = length;
 }

@@ -20,5 +20,13 @@ pub fn check(rdata: &[u8]) -> Result<Found<'_>, Refusal>
         return Err(Refusal::Prefix);
     }
     let whole = usize::from(prefix / 8);
-    a6::inside::ending(prefix, &rdata[whole..16], &rdata[FRONT..])
+    let suffix = &rdata[whole..16];
+    let name = &rdata[FRONT..];
+    let standard = a6::inside::ending(prefix, name)?;
+    Ok(Found {
+        prefix,
+        suffix,
+        name,
+        standard,
+    })
 }

@@ -26,7 +26,7 @@ pub slice_bounds-put_address-end : goal.slice_bounds-put_address-end
 slice_bounds-put_address-end c = omega (arith, ap length c.requires ∙ length_blank value_size)
 
 pub put_address-requires : goal.put_address-requires
-put_address-requires c = address_blank _ c.requires
+put_address-requires c = let f = c.args.found in (f.low, f.whole, address_blank _ c.requires)
 
 pub slice_bounds-put_name-count : goal.slice_bounds-put_name-count
 slice_bounds-put_name-count c = omega (arith, whole c.args.value.now c.put_address.new.out c.requires c.put_address.auto.out)
@@ -35,7 +35,7 @@ pub slice_bounds-put_name-start : goal.slice_bounds-put_name-start
 slice_bounds-put_name-start c = omega (arith, whole c.args.value.now c.put_address.new.out c.requires c.put_address.auto.out)
 
 pub put_name-length-requires : goal.put_name-length-requires
-put_name-length-requires c = room c.args.value.now c.put_address.new.out c.requires c.put_address.auto.out
+put_name-length-requires c = let f = c.args.found in (f.ended, f.told, room c.args.value.now c.put_address.new.out c.requires c.put_address.auto.out)
 
 pub bounds-value-17 : goal.bounds-value-17
 bounds-value-17 c = simp length-set (omega (arith, all c.args.value.now c.put_address.new.out c.requires c.put_address.auto.out c.put_name-length.new.out c.put_name-length.auto.out))

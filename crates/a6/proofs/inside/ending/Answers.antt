@@ -1,6 +1,5 @@
 -- `a6::inside::ending` meets its contract: each test is one law of how data ends.
 use mathlib.Core.Path.{◌≡◌, ap, sym, ◌∙◌}
-use native.Mathlib.Omega.{arith}
 use borrow.Author.Rules.{rules}
 use Rattle.std.specs.Prelude.{Err}
 use Rattle.octets.specs.Refusals.{number_of}
@@ -17,18 +16,9 @@ pub returns-then-name-rest-clause-number : goal.returns-then-name-rest-clause-nu
 returns-then-name-rest-clause-number c =
     ending_more c.args.prefix c.args.rest.now c.in_ok-name.name (sym c.in_ok-name.was ∙ c.name_found.ensures) c.if-name-rest.true
 
-pub invariant_of-result : goal.invariant_of-result
-invariant_of-result c =
-    let w = sym c.in_ok-name.was ∙ c.name_found.ensures in
-    record {
-      low = c.requires.0;
-      whole = c.requires.1;
-      ended = sym (ending_whole c.args.prefix c.args.rest.now c.in_ok-name.name w c.if-name-rest.false);
-      suffix_small = λ i. omega (arith, c.type_inv.suffix i);
-      name_small = λ i. omega (arith, c.type_inv.rest i);
-      told = ap standard_by w;
-    }
-
 pub returns-clause-number : goal.returns-clause-number
 returns-clause-number c =
     ending_whole c.args.prefix c.args.rest.now c.in_ok-name.name (sym c.in_ok-name.was ∙ c.name_found.ensures) c.if-name-rest.false
+
+pub returns-clause-standard : goal.returns-clause-standard
+returns-clause-standard c = ap standard_by (sym c.in_ok-name.was ∙ c.name_found.ensures)

@@ -6,11 +6,11 @@ use Rattle.a6.proofs.parts.Found.value.Goals as goal
 
 pub put_address-requires : goal.put_address-requires
 unfolding blank
-put_address-requires c = refl
+put_address-requires c = let f = c.args.self in (f.low, f.whole, refl)
 
 pub put_name-length-requires : goal.put_name-length-requires
 unfolding blank
-put_name-length-requires c = refl
+put_name-length-requires c = let f = c.args.self in (f.ended, f.told, refl)
 
 pub returns : goal.returns
 unfolding value_from
