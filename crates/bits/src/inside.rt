@@ -1,4 +1,4 @@
-// What only our own layers call: bits packed into octets. Each function asks something of its caller.
+// What only our own layers call: bits packed into octets. Most ask something of their caller.
 ghost use Rattle.std.specs.Prelude.{◌≡◌, ◌+◌, ◌/◌, ◌%◌, ◌^◌, ◌≤◌, ◌<◌, length};
 ghost use Rattle.bits.specs.Bits.{bits_of, octets_for, unpack};
 ghost use Rattle.bits.specs.Packing.{Ready, Pushed, Flushed};

@@ -222,7 +222,8 @@ fn put_all(table: &[u8], name: &[u8], most: usize, out: &mut [u8]) -> Option<usi
     Some(n)
 }
 
-// What stands in the place of the record i, from record n of the output on; where the next record goes.
+// What stands in the place of the record i, from record n of the output on; where the next record goes. This function and those below it that put records take
+// the output and a count: a struct of both would be as long, and each clause speaks of both.
 fn put_place(
     table: &[u8],
     name: &[u8],

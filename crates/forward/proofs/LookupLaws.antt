@@ -114,7 +114,7 @@ module _ (t owners : List ℕ) (fields : List Fields) (o : InOrder t) (f : Fille
   pub read_numbered : Numbered read
   read_numbered = record {
     owned = record { few = rw read_size (order_count t o); owner = λ j h. own_small j (rw read_size at h) };
-    level = length-take-le (count_of t) fields f.fields_long ∙ sym read_size;
+    level = let e = length-take-le (count_of t) fields f.fields_long ∙ sym read_size in omega (arith, e);
     target = λ j h p.
         let k : j < count_of t = rw read_size at h in
         let q : 0 < prefix_at t j = rw (read_length j k) at p in

@@ -19,6 +19,7 @@ pub fn put_name(name: &[u8], out: &mut [u8], to: usize) -> usize
         out[to] = b'.';
         return to + 1;
     }
+    // Each label says where the next one begins.
     let mut at: usize = 0;
     let mut end = to;
     while name[at] != 0 {

@@ -98,6 +98,7 @@ fn judge(text: &[u8]) -> Result<(), Refusal>
         return Ok(());
     }
     let mut tally = Ok(Sizes { size: 0, run: 0 });
+    // From dot to dot: a part is read as a slice, and the place is what is known of the rest.
     let mut at: usize = 0;
     while at < n {
         let e = next_dot(text, at);
@@ -435,6 +436,7 @@ fn put_labels(text: &[u8], out: &mut [u8]) -> usize
     if n == 1 {
         return 1;
     }
+    // A label or a whole run at a time, which says itself where the next one begins.
     let mut at: usize = 0;
     let mut to: usize = 0;
     while at < n {

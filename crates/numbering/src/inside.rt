@@ -122,7 +122,8 @@ impl<'a> Names<'a> {
         number as u16
     }
 
-    // The number in the list of the name in a slot: the names of its bucket are compared with it, the last first.
+    // The number in the list of the name in a slot: the names of its bucket are compared with it, the last first. They are linked by numbers, since
+    // memory is fixed.
     fn find(&self, slot: &[u8; SLOT], bucket: usize) -> Option<usize>
         requires { (Holds slot.now) × (bucket ≡ bucket_of slot.now) }
         ensures { MatchOption result (number_in (names_in self.now) (name_in slot.now) ≡ self.now.count) (λ k. (k ≡ number_in (names_in self.now) (name_in slot.now)) × (k < self.now.count)) }

@@ -1,4 +1,5 @@
 pub mod Octets
+pub mod Cleared
 pub mod Answers
 pub mod Refusals
 pub mod Zeros

@@ -1,14 +1,9 @@
 -- Lists of octets: zeros, when two lists are the same, and whether a number stands in one.
-use Rattle.std.specs.Prelude.{◌≡◌, refl, ℕ, ◌<◌, Bool, true, false, ◌||◌, List, [], ◌∷◌, ◌++◌, eqb, get_or, replicate}
+use Rattle.std.specs.Prelude.{ℕ, ◌<◌, Bool, true, false, ◌||◌, List, [], ◌∷◌, ◌++◌, eqb, get_or, replicate}
 
 -- n zero octets
 unfoldable pub blank : ℕ → List ℕ
 blank n = replicate n 0
-
--- which are copies of 0
-pub blank_replicated : (n : ℕ) → blank n ≡ replicate n 0
-unfolding blank
-blank_replicated n = refl
 
 -- each is an octet: what the type of a slice gives of its contents
 abbrev pub Small : List ℕ → Type 0

@@ -2,7 +2,8 @@
 #![tactic(auto)]
 
 ghost use Rattle.std.specs.Prelude.{◌≡◌, ◌<◌, ℕ, List, length, replicate};
-ghost use Rattle.octets.specs.Octets.{blank, blank_replicated, same};
+ghost use Rattle.octets.specs.Octets.{blank, same};
+ghost use Rattle.octets.specs.Cleared.{blank_replicated};
 ghost use Rattle.octets.specs.Answers.{refusal};
 ghost use Rattle.octets.specs.Refusals.{answered};
 

@@ -54,7 +54,7 @@ fn pass(name: &[u8], at: usize) -> Turn
     }
 }
 
-// How many units a name is.
+// How many units a name is. Each label says where the next one begins, so there is no range to go over.
 fn unit_count(name: &[u8]) -> usize
     requires { Begins name.now 0 }
     ensures { result ≡ length (units_at name.now 0) }
@@ -69,7 +69,7 @@ fn unit_count(name: &[u8]) -> usize
     sum
 }
 
-// Unit j of a name.
+// Unit j of a name. That a label is there as long as units are left is known of the name, so the loop has no other end.
 fn find(name: &[u8], j: usize) -> Spot
     requires begins { Begins name.now 0 }
     requires j_in_bounds { j < length (units_at name.now 0) }

@@ -21,7 +21,7 @@ pub record Owned (owners : List ℕ) : Type 0 where
 -- what a search asks of the records: targets by number too, prefix lengths up to 128, and TTLs up to the greatest
 pub record Numbered (r : Records) : Type 0 where
   pub owned : Owned r.owners
-  pub level : length r.fields ≡ length r.owners
+  pub level : length r.owners ≤ length r.fields
   pub target : (j : ℕ) → j < length r.owners → 0 < length_of r j → target_of r j < max_names
   pub short : (j : ℕ) → j < length r.owners → length_of r j ≤ 128
   pub lived : (j : ℕ) → j < length r.owners → ttl_of r j ≤ max_ttl

@@ -141,6 +141,7 @@ impl Search<'_, '_, '_> {
     }
 
     // Over the unused records of the name x, from the first of them on; it ends where no chain may be counted any more.
+    // The first one is handed in, since the caller has it: looked up here again, many loops take a fifth longer.
     #[cycle(search_step)]
     fn over(&mut self, x: usize, first: usize, chain: Chain)
         requires fit { Fit (records_of self.old.records) (memory_of self.old) chain.bound }
