@@ -139,12 +139,12 @@ plainly = (tt, (λ h. h, λ h. h))
 pub octets_refused : (κs : Lfts 0) (number : ℕ) (r : Answer) → Promises (refused.Asked κs) (refused.Learnt κs) (number, tt) r (number, tt) (r ≡ refusal number)
 octets_refused κs number r = plainly
 
--- of a list of octets; of `laws`, `copy`, `clone` and both `d` and `e`, by which the element's type comes, nothing depends
+-- the contract of `octets::clear` at octets is its definition; nothing depends on `laws`, `copy`, `clone`, `d` and `e`, by which the element's type comes
 pub octets_clear : (laws : Laws u8) (copy : IsCopy u8) (clone : Ghosts ℕ) (d e : Dict) (κs : Lfts 2) (out end : MutBor (List ℕ))
     → Promises (clear.Asked u8 laws copy zeros-u8.ghosts d clone e κs) (clear.Learnt u8 laws copy zeros-u8.ghosts d clone e κs) (out, tt) tt (end, tt) (end.now ≡ blank (length out.now))
 octets_clear laws copy clone d e κs out end = (λ a m. absurd (not-mem-nil m), (λ h. h, λ h. h))
 
--- and of a list of numbers of 32 bits
+-- the contract of `octets::clear` at numbers of 32 bits is its definition
 pub octets_numbers_clear : (laws : Laws u32) (copy : IsCopy u32) (clone : Ghosts ℕ) (d e : Dict) (κs : Lfts 2) (list end : MutBor (List ℕ))
     → Promises (clear.Asked u32 laws copy zeros-u32.ghosts d clone e κs) (clear.Learnt u32 laws copy zeros-u32.ghosts d clone e κs) (list, tt) tt (end, tt) (end.now ≡ blank (length list.now))
 octets_numbers_clear laws copy clone d e κs list end = (λ a m. absurd (not-mem-nil m), (λ h. h, λ h. h))
@@ -397,9 +397,10 @@ scan_clears xs = go (scan_of xs)
     go (scans.refused n) h = (refl, refl)
     go (scans.done ls used) h = absurd (h refl)
 
--- and it has the number of its reading
-pub scan_told : (xs : List ℕ) (n : ℕ) → scan_of xs ≡ scans.refused n → refusals.number_of (scanned (scan_of xs)) ≡ n
-scan_told = scan_number
+-- and gives the refusal of its number, and nothing else
+pub scan_told : (xs : List ℕ) (n : ℕ) → scan_of xs ≡ scans.refused n → (e : Refusal) × (scanned (scan_of xs) ≡ Err e) × (code_of e ≡ n)
+unfolding scanned
+scan_told xs n h = (told n, ap scanned h, sym (ap (λ (r : scans.Reading). refusals.number_of (scanned r)) h) ∙ scan_number xs n h)
 
 -- a refused reading gives the refusal of its number, and no value
 reading_clears : (k : ℕ) (v : Value) → Known k → (k ≡ 0 → ⊥) → (e : Refusal) × (reading_for k v ≡ Err e) × (code_of e ≡ k)
