@@ -1,10 +1,11 @@
 //! The C header declares what the crate `a6plan_c` exports, with the same types in the same order, and numbers the fields;
-//! and each export promises what the function of the crate `a6plan` does.
+//! each export promises what the function of the crate `a6plan` does; and the archive asks for no more than it says.
 
 use a6plan_tests::pages::source::functions_in;
 use a6plan_tests::plain::plan::Field;
-use a6plan_tests::tree::text_of;
-use std::collections::BTreeMap;
+use a6plan_tests::tree::{repository, text_of};
+use std::collections::{BTreeMap, BTreeSet};
+use std::process::Command;
 
 /// The types of each function's parameters, by its name.
 type Functions = BTreeMap<String, Vec<String>>;
@@ -63,6 +64,17 @@ fn an_export_promises_what_the_library_does() {
     };
     assert_eq!(promises(EXPORTS.0), promises(library));
     assert!(promises(library).values().all(|contract| !contract.is_empty()));
+}
+
+/// The archive asks for two names alone, which the compiler puts in: it can be linked where there is no other C library.
+#[test]
+fn the_archive_asks_for_two_names() {
+    let mut nm = Command::new("nm");
+    let output = nm.args(["-u", "target/staticlib/liba6plan.a"]).current_dir(repository()).output().expect("nm runs");
+    assert!(output.status.success(), "nm reads the archive");
+    let text = String::from_utf8(output.stdout).expect("text");
+    let asked: BTreeSet<&str> = text.lines().filter_map(|line| line.trim().strip_prefix("U ")).collect();
+    assert_eq!(asked, BTreeSet::from(["memcpy", "memset"]));
 }
 
 #[test]

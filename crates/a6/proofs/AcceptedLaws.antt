@@ -222,3 +222,11 @@ module _ (v : Value) (before : ℕ) (octets : List ℕ) (d : laid_of v before �
 
   pub laid_out : out_by (laid_number v before room) (laid_of v before) room ≡ out_by (or_else (value_number v) (room_number octets room)) octets room
   laid_out = ap (λ (xs : List ℕ). out_by (or_else (value_number v) (room_number xs room)) xs room) d
+
+-- what is answered and written for a value is answered and written for the same value in another form
+module _ (u v : Value) (before room : ℕ) (e : u ≡ v) where
+  pub same_answer : answer_by (laid_number u before room) (length (laid_of u before)) 0 ≡ answer_by (laid_number v before room) (length (laid_of v before)) 0
+  same_answer = λ i. answer_by (laid_number (e i) before room) (length (laid_of (e i) before)) 0
+
+  pub same_out : out_by (laid_number u before room) (laid_of u before) room ≡ out_by (laid_number v before room) (laid_of v before) room
+  same_out = λ i. out_by (laid_number (e i) before room) (laid_of (e i) before) room

@@ -9,6 +9,7 @@ use Rattle.a6.specs.Ending.{value_from}
 use Rattle.a6.specs.Accepted.{value_number, room_number}
 use Rattle.a6.specs.declared.Value.{Value}
 use Rattle.a6.specs.declared.parts.Found.{Found}
+use Rattle.a6.specs.declared.parts.Lent.{Lent}
 
 -- octets written over the front of others
 abbrev pub over : List ℕ → List ℕ → List ℕ
@@ -21,6 +22,10 @@ in_last l suffix = blank (16 - suffix_octets l) ++ suffix
 -- the value that data stands for, by the parts that are found in it
 abbrev pub value_at : Found → Value
 value_at f = value_from f.prefix (in_last f.prefix f.suffix.now) f.name.now
+
+-- the value whose octets are lent
+abbrev pub lent_value : Lent → Value
+lent_value l = record { prefix = l.prefix; address = l.address.now; name = record { octets = l.octets.now; length = l.length } }
 
 -- what the tests of a layout say of data: its number there, and on 0 the parts of the value that it stands for there
 abbrev pub Tells : Result Found Refusal → ℕ → Value → Type 0

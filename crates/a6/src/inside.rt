@@ -10,10 +10,11 @@ ghost use Rattle.a6.specs.Data.{longest, suffix_octets, octets_of};
 ghost use Rattle.a6.specs.Ending.{name_found, name_number, name_in};
 ghost use Rattle.a6.specs.Read.{read_number, value_of};
 ghost use Rattle.a6.specs.Accepted.{name_fits, value_number, room_number};
-ghost use Rattle.a6.specs.Parts.{in_last, value_at, Tells, laid, laid_of, laid_number};
+ghost use Rattle.a6.specs.Parts.{in_last, value_at, lent_value, Tells, laid, laid_of, laid_number};
 
 use crate::Value;
-pub use crate::parts::Found;
+pub use crate::parts::{Found, Lent};
+use octets::inside::copy_whole;
 use octets::{Done, Refusal};
 
 // The longest prefix (01, A6 data).
@@ -93,7 +94,7 @@ pub fn put_address(prefix: u8, suffix: &[u8], out: &mut [u8])
     ensures { out.new ≡ join_of (blank 16) (in_last prefix suffix.now) prefix }
 {
     let first = 16 - suffix.len();
-    out[first..].copy_from_slice(suffix);
+    copy_whole(suffix, &mut out[first..]);
     if first < 16 {
         out[first] = unpadded(out[first], prefix % 8);
     }
@@ -110,13 +111,28 @@ pub fn put_name(name: &[u8], prefix: u8, standard: bool, out: &mut [u8]) -> u8
     names::inside::put_standard(name, standard, out) as u8
 }
 
+impl Value {
+    // The value with its octets lent.
+    pub fn lent(&self) -> Lent<'_>
+        ensures { lent_value result ≡ self.now }
+    {
+        Lent {
+            prefix: self.prefix,
+            address: &self.address,
+            octets: &self.name.octets,
+            length: self.name.length,
+        }
+    }
+}
+
 // The data of a value, with zeros after it, and its length, in the layout that has `before` octets of the address before the prefix length, and behind it those
 // that neither the prefix fills nor stand before it: `Prefix` for a prefix length over 128, `Malformed` for a value that a reader cannot give, `Room` for an
 // output that is too short.
-pub fn lay(value: &Value, before: usize, out: &mut [u8]) -> Result<Done, Refusal>
+// The parts of the value are lent, since a copy of its octets takes longer than all else that a writer does.
+pub fn lay(value: Lent, before: usize, out: &mut [u8]) -> Result<Done, Refusal>
     requires { before ≤ 16 }
-    ensures value { answered result ≡ answer_by (laid_number value.now before (length out.old)) (length (laid_of value.now before)) 0 }
-    ensures out_after { out.new ≡ out_by (laid_number value.now before (length out.old)) (laid_of value.now before) (length out.old) }
+    ensures value { answered result ≡ answer_by (laid_number (lent_value value.entry) before (length out.old)) (length (laid_of (lent_value value.entry) before)) 0 }
+    ensures out_after { out.new ≡ out_by (laid_number (lent_value value.entry) before (length out.old)) (laid_of (lent_value value.entry) before) (length out.old) }
 {
     octets::clear(out);
     check_value(value)?;
@@ -124,19 +140,21 @@ pub fn lay(value: &Value, before: usize, out: &mut [u8]) -> Result<Done, Refusal
 }
 
 // Whether a value is one that a reader gives, and so one that a writer takes.
-fn check_value(value: &Value) -> Result<(), Refusal>
-    ensures { number_of result ≡ value_number value.now }
+fn check_value(value: Lent) -> Result<(), Refusal>
+    ensures { number_of result ≡ value_number (lent_value value.entry) }
 {
     if LONGEST < value.prefix {
         return Err(Refusal::Prefix);
     }
-    if !name_fits(value.prefix, value.name.as_slice()) {
+    if !name_fits(value.prefix, value.name()) {
         return Err(Refusal::Malformed);
     }
-    if !octets::zeros::is_blank(&value.name.octets, usize::from(value.name.length)) {
+    let octets = value.octets;
+    if !octets::zeros::is_blank(octets, octets::wide(value.length)) {
         return Err(Refusal::Malformed);
     }
-    if !address::is_clear(&value.address, value.prefix) {
+    let address = value.address;
+    if !address::is_clear(address, value.prefix) {
         return Err(Refusal::Malformed);
     }
     Ok(())
@@ -144,23 +162,25 @@ fn check_value(value: &Value) -> Result<(), Refusal>
 
 // The data of a value over zeros, and its length: `before` octets of the address, the prefix length, the octets of the address that neither stand before it nor
 // are filled by the prefix, the name; `Room` where there is no room.
-fn put_data(value: &Value, before: usize, out: &mut [u8]) -> Result<Done, Refusal>
-    requires { (value.now.prefix ≤ longest) × (before ≤ 16) × (out.old ≡ blank (length out.old)) }
-    ensures value { answered result ≡ answer_by (room_number (laid_of value.now before) (length out.old)) (length (laid_of value.now before)) 0 }
-    ensures out_after { out.new ≡ out_by (room_number (laid_of value.now before) (length out.old)) (laid_of value.now before) (length out.old) }
+fn put_data(value: Lent, before: usize, out: &mut [u8]) -> Result<Done, Refusal>
+    requires { (value.prefix ≤ longest) × (before ≤ 16) × (out.old ≡ blank (length out.old)) }
+    ensures value { answered result ≡ answer_by (room_number (laid_of (lent_value value.entry) before) (length out.old)) (length (laid_of (lent_value value.entry) before)) 0 }
+    ensures out_after { out.new ≡ out_by (room_number (laid_of (lent_value value.entry) before) (length out.old)) (laid_of (lent_value value.entry) before) (length out.old) }
 {
-    let after = before.max(usize::from(value.prefix / 8));
-    let name = value.name.as_slice();
+    let after = before.max(octets::wide(value.prefix / 8));
+    let address = value.address;
+    let back = &address[after..];
+    let name = value.name();
     let next = before + 1;
     let end = next + (16 - after);
     let size = end + name.len();
     if out.len() < size {
         return Err(Refusal::Room);
     }
-    out[..before].copy_from_slice(&value.address[..before]);
+    copy_whole(&address[..before], &mut out[..before]);
     out[before] = value.prefix;
-    out[next..end].copy_from_slice(&value.address[after..]);
-    out[end..size].copy_from_slice(name);
+    copy_whole(back, &mut out[next..end]);
+    copy_whole(name, &mut out[end..size]);
     Ok(Done {
         count: size as u32,
         work: 0,
@@ -172,7 +192,7 @@ fn suffix_octets(prefix: u8) -> usize
     requires { prefix ≤ longest }
     ensures { (result ≡ suffix_octets prefix) × (result ≤ 16) }
 {
-    16 - usize::from(prefix / 8)
+    16 - octets::wide(prefix / 8)
 }
 
 // Whether a name is what the prefix length asks for.

@@ -31,7 +31,7 @@ pub fn write(value: Value, out: &mut [u8]) -> Result<Done, Refusal>
     ensures value { answered result ≡ write_answer value (length out.old) }
     ensures out_after { out.new ≡ write_out value (length out.old) }
 {
-    inside::lay(&value, 0, out)
+    inside::lay(value.lent(), 0, out)
 }
 
 pub mod inside;

@@ -1,5 +1,5 @@
-// The parts of data that can be read.
-ghost use Rattle.std.specs.Prelude.{◌≡◌, ◌≤◌, length};
+// The parts of data that can be read, and those of a value that is to be written.
+ghost use Rattle.std.specs.Prelude.{◌≡◌, ◌≤◌, length, take};
 ghost use Rattle.octets.specs.Octets.{Small};
 ghost use Rattle.labels.specs.Answers.{standard_by};
 ghost use Rattle.a6.specs.Data.{longest, suffix_octets};
@@ -19,4 +19,23 @@ pub struct Found<'a> {
     ghost suffix_small: { Small suffix.now },
     ghost name_small: { Small name.now },
     ghost told: { standard ≡ standard_by (name_found prefix name.now) },
+}
+
+// A value whose octets are lent: the prefix length, the address, the octets that hold the name, and how many of them are the name.
+#[derive(Clone, Copy)]
+pub struct Lent<'a> {
+    pub prefix: u8,
+    pub address: &'a [u8; 16],
+    pub octets: &'a [u8; 255],
+    pub length: u8,
+}
+
+impl<'a> Lent<'a> {
+    // The octets of the name.
+    pub fn name(self) -> &'a [u8]
+        ensures { result.now ≡ take self.entry.length self.entry.octets.now }
+    {
+        let octets = self.octets;
+        &octets[..octets::wide(self.length)]
+    }
 }

@@ -9,7 +9,7 @@ ghost use Rattle.names.specs.Standard.{standard_of};
 ghost use Rattle.names.specs.Answers.{standard_number, standard_answer};
 ghost use Rattle.a6.specs.Read.{read_number, value_of};
 ghost use Rattle.a6.specs.Write.{data_of, write_number, write_answer};
-ghost use Rattle.a6.specs.Parts.{value_at, laid_of, laid_number};
+ghost use Rattle.a6.specs.Parts.{value_at, lent_value, laid_of, laid_number};
 ghost use Rattle.draft.specs.Read.{draft_number, draft_value};
 ghost use Rattle.draft.specs.Write.{draft_data, draft_write_number, draft_answer};
 ghost use Rattle.plan.specs.Check.{check_of};
@@ -27,7 +27,7 @@ ghost use Rattle.collapse.specs.Collapse.{number_of, collapse_answer};
 ghost use Rattle.a6plan.specs.Exports.{of_name, of_part, of_line, of_check, of_table, exported_number, exported_figures, placed_figures, fault_figures, reply_figures, part_answer, value_size, value_octets, value_in, exported_read_number, exported_write_number};
 ghost use Rattle.a6plan.specs.Keeping.{kept_for};
 
-use a6::inside::Found;
+use a6::inside::{Found, Lent};
 use octets::{Done, Refusal};
 use plan::{Refused, Reply};
 
@@ -211,7 +211,7 @@ fn write_from(octets: &[u8], before: usize, out: &mut [u8], figures: &mut [u32])
 {
     match octets.as_array() {
         Some(octets) if figures.len() == 2 => {
-            let outcome = a6::inside::lay(&value_in(octets), before, out);
+            let outcome = a6::inside::lay(value_in(octets), before, out);
             figure(&[], outcome, figures)
         }
         _ => {
@@ -222,18 +222,16 @@ fn write_from(octets: &[u8], before: usize, out: &mut [u8], figures: &mut [u32])
     }
 }
 
-// The value that so many octets hold.
+// The value that so many octets hold, with its octets lent.
 #[tactic(auto, unfolding(crate::specs::Exports::value_in))]
-fn value_in(octets: &[u8; VALUE]) -> a6::Value
-    ensures { result ≡ value_in octets.now }
+fn value_in(octets: &[u8; VALUE]) -> Lent<'_>
+    ensures { lent_value result ≡ value_in octets.now }
 {
-    a6::Value {
+    Lent {
         prefix: octets[0],
-        address: *octets[1..17].as_array().unwrap(),
-        name: names::Name {
-            octets: *octets[18..].as_array().unwrap(),
-            length: octets[17],
-        },
+        address: octets[1..17].as_array().unwrap(),
+        octets: octets[18..].as_array().unwrap(),
+        length: octets[17],
     }
 }
 

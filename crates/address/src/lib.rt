@@ -13,7 +13,7 @@ use std::cmp::Ordering;
 pub fn join(high: [u8; 16], low: [u8; 16], at: u8) -> [u8; 16]
     ensures { result ≡ join_of high low at }
 {
-    let place = usize::from(at / 8);
+    let place = octets::wide(at / 8);
     // From 128 on the place is past the last octet and no octet is the mixed one; modulo 16 it stays inside the arrays.
     let mixed = mix(high[place % 16], low[place % 16], at % 8);
     let mut out = low;
@@ -35,12 +35,12 @@ pub fn compare(a: &[u8], b: &[u8]) -> Ordering
 pub fn is_clear(a: &[u8], n: u8) -> bool
     ensures { result ≡ clear_to n a.now }
 {
-    let whole = usize::from(n / 8);
+    let whole = octets::wide(n / 8);
     let (whole, rest) = a.split_at(whole.min(a.len()));
     whole.iter().all(|octet| *octet == 0)
         && rest
             .first()
-            .is_none_or(|octet| usize::from(*octet) >> (8 - n % 8) == 0)
+            .is_none_or(|octet| octets::wide(*octet) >> (8 - n % 8) == 0)
 }
 
 // An octet with the first n bits of `high` and the other bits of `low`.

@@ -113,37 +113,36 @@ reach_within n h = go (ltb n max_records) refl
     go false e = omega (arith, ltb-false n max_records e)
 
 -- ---- linking the records from the last to the first
-linked_none : (t : List ℕ) (heads next : List (Option ℕ)) → count_of t ≤ max_records → length heads ≡ 256 → length next ≡ max_records
-    → ((b : ℕ) → b < 256 → get_or heads b None ≡ None) → Linked t heads next (count_of t)
+linked_none : (t heads next : List ℕ) → count_of t ≤ max_records → length heads ≡ 256 → length next ≡ max_records
+    → ((b : ℕ) → b < 256 → get_or heads b 0 ≡ max_records) → Linked t heads next (count_of t)
 linked_none t heads next m lh ln h = record {
   buckets = lh;
   records = ln;
-  head = λ b l. h b l ∙ sym (ap within (first_none t b m) ∙ within_none);
+  head = λ b l. h b l ∙ sym (first_none t b m);
   after = λ j p q. let z : ⊥ = omega arith in absurd z;
 }
 
-pub linked_start : (t : List ℕ) → InOrder t → Linked t (replicate 256 None) (replicate 1024 None) (count_of t)
-linked_start t o = linked_none t (replicate 256 None) (replicate 1024 None) (order_count t o) refl refl (λ b l. get_or-replicate 256 b None None l)
+pub linked_start : (t : List ℕ) → InOrder t → Linked t (replicate 256 1024) (replicate 1024 1024) (count_of t)
+linked_start t o = linked_none t (replicate 256 1024) (replicate 1024 1024) (order_count t o) refl refl (λ b l. get_or-replicate 256 b 1024 0 l)
 
-pub linked_more : (t : List ℕ) (heads next : List (Option ℕ)) (i b : ℕ) → i < count_of t → count_of t ≤ max_records → b ≡ bucket_of (owner_slot (record_at t i)) → b < 256
-    → Linked t heads next (i + 1) → Linked t (set heads b (Some i)) (set next i (get_or heads b None)) i
+pub linked_more : (t heads next : List ℕ) (i b : ℕ) → i < count_of t → count_of t ≤ max_records → b ≡ bucket_of (owner_slot (record_at t i)) → b < 256
+    → Linked t heads next (i + 1) → Linked t (set heads b i) (set next i (get_or heads b 0)) i
 linked_more t heads next i b h m e l k = record {
-  buckets = length-set heads b (Some i) ∙ k.buckets;
-  records = length-set next i (get_or heads b None) ∙ k.records;
+  buckets = length-set heads b i ∙ k.buckets;
+  records = length-set next i (get_or heads b 0) ∙ k.records;
   head = λ c p. at_head c p (ℕ_discrete c b);
   after = λ j p q. at_next j p q (ℕ_discrete j i);
 }
   where
-    at_head : (c : ℕ) → c < 256 → Dec (c ≡ b) → get_or (set heads b (Some i)) c None ≡ within (first_in t c i)
-    at_head c p (yes g) =
-        ap (λ (u : ℕ). get_or (set heads b (Some i)) u None) g ∙ get_or-set_same heads b (Some i) None (omega (arith, k.buckets)) ∙ sym (within_some i (omega arith)) ∙ sym (ap within (first_own t c i h m (sym e ∙ sym g)))
-    at_head c p (no g) = get_or-set_other heads b c (Some i) None g ∙ k.head c p ∙ sym (ap within (first_past t c i h m (λ z. g (sym z ∙ sym e))))
+    at_head : (c : ℕ) → c < 256 → Dec (c ≡ b) → get_or (set heads b i) c 0 ≡ first_in t c i
+    at_head c p (yes d) = ap (λ (v : ℕ). get_or (set heads b i) v 0) d ∙ get_or-set_same heads b i 0 (omega (arith, k.buckets)) ∙ sym (first_own t c i h m (sym e ∙ sym d))
+    at_head c p (no d) = get_or-set_other heads b c i 0 d ∙ k.head c p ∙ sym (first_past t c i h m (λ f. d (sym f ∙ sym e)))
 
-    at_next : (j : ℕ) → i ≤ j → j < count_of t → Dec (j ≡ i) → get_or (set next i (get_or heads b None)) j None ≡ within (first_in t (bucket_of (owner_slot (record_at t j))) (j + 1))
-    at_next j p q (yes g) =
-        ap (λ (u : ℕ). get_or (set next i (get_or heads b None)) u None) g ∙ get_or-set_same next i (get_or heads b None) None (omega (arith, k.records)) ∙ k.head b l
-        ∙ rw (g, ← e)
-    at_next j p q (no g) = get_or-set_other next i j (get_or heads b None) None g ∙ k.after j (omega (arith, g)) q
+    at_next : (j : ℕ) → i ≤ j → j < count_of t → Dec (j ≡ i) → get_or (set next i (get_or heads b 0)) j 0 ≡ first_in t (bucket_of (owner_slot (record_at t j))) (j + 1)
+    at_next j p q (yes d) =
+        ap (λ (v : ℕ). get_or (set next i (get_or heads b 0)) v 0) d ∙ get_or-set_same next i (get_or heads b 0) 0 (omega (arith, k.records)) ∙ k.head b l
+        ∙ rw (d, ← e)
+    at_next j p q (no d) = get_or-set_other next i j (get_or heads b 0) 0 d ∙ k.after j (omega (arith, d)) q
 
 -- ---- what is passed over makes nothing
 up_to_skip : (f : ℕ → List (List ℕ)) (a b : ℕ) → a ≤ b → ((k : ℕ) → a ≤ k → k < b → f k ≡ []) → up_to b f ≡ up_to a f

@@ -60,11 +60,11 @@ unfoldable pub within : ℕ → Option ℕ
 within n = pick (ltb n max_records) (Some n) None
 
 -- the records from i on are linked: the first of each bucket, and after each record the next of its bucket
-pub record Linked (t : List ℕ) (heads next : List (Option ℕ)) (i : ℕ) : Type 0 where
+pub record Linked (t heads next : List ℕ) (i : ℕ) : Type 0 where
   pub buckets : length heads ≡ 256
   pub records : length next ≡ max_records
-  pub head : (b : ℕ) → b < 256 → get_or heads b None ≡ within (first_in t b i)
-  pub after : (j : ℕ) → i ≤ j → j < count_of t → get_or next j None ≡ within (first_in t (bucket_of (owner_slot (record_at t j))) (j + 1))
+  pub head : (b : ℕ) → b < 256 → get_or heads b 0 ≡ first_in t b i
+  pub after : (j : ℕ) → i ≤ j → j < count_of t → get_or next j 0 ≡ first_in t (bucket_of (owner_slot (record_at t j))) (j + 1)
 
 -- what r and q make, if anything
 unfoldable pub made_by : List ℕ → List ℕ → List (List ℕ)

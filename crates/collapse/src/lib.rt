@@ -1,7 +1,7 @@
 // Collapse of a name (01, Collapse of a name X; T-01): its meaning, its running form, and what no list of collapses changes.
 #![tactic(auto)]
 
-ghost use Rattle.std.specs.Prelude.{◌≡◌, true, ◌&&◌, ◌+◌, ◌*◌, ◌/◌, ◌%◌, ◌≤◌, ◌<◌, length, MatchOption, OnOk, Some};
+ghost use Rattle.std.specs.Prelude.{◌≡◌, true, ◌&&◌, ◌+◌, ◌*◌, ◌/◌, ◌%◌, ◌≤◌, ◌<◌, length, get_or, MatchOption, OnOk, Some};
 ghost use Rattle.octets.specs.Octets.{flat};
 ghost use Rattle.octets.specs.Refusals.{answered};
 ghost use Rattle.names.specs.Standard.{same_name, in_standard_form};
@@ -12,7 +12,7 @@ ghost use Rattle.plan.specs.Faults.{replying, replied};
 ghost use Rattle.plan.specs.Good.{Good};
 ghost use Rattle.collapse.specs.Fold.{leads, unfinished, continues, refers, joined_of, made_of, place_of, fold_of};
 ghost use Rattle.collapse.specs.Collapse.{collapse_answer, collapse_out};
-ghost use Rattle.collapse.specs.Running.{lesser_of, greater_of, crossed, span_of, bucket_of, Linked, made_by, stored_one, stored};
+ghost use Rattle.collapse.specs.Running.{within, lesser_of, greater_of, crossed, span_of, bucket_of, Linked, made_by, stored_one, stored};
 
 use octets::{Done, Refusal};
 use plan::Refused;
@@ -42,11 +42,12 @@ fn fill(table: &[u8], name: &[u8], out: &mut [u8]) -> Result<Done, Refused>
     ensures reply { replied result ≡ replying table.now (collapse_answer table.now name.now (length out.old)) }
     ensures output { OnOk result (out.new ≡ collapse_out table.now name.now (length out.old)) }
 {
-    let held = plan::inside::enter(table, name)?;
+    let entered = plan::inside::enter(table, name);
+    entered.outcome?;
     if out.len() % RECORD != 0 {
         return Err(Refused::from(Refusal::Output));
     }
-    let done = fold(table, held.as_slice(), out)?;
+    let done = fold(table, entered.name.as_slice(), out)?;
     Ok(done)
 }
 
@@ -165,37 +166,64 @@ fn survey(table: &[u8], name: &[u8]) -> Span
 }
 
 // The records of a table by the bucket of their owner, in table order: the first of each bucket, and after each record the next of its bucket.
-// Records are named by index, since memory is fixed: nothing here may allocate.
-#[derive(Drop)]
-struct Buckets {
-    first: [Option<u16>; BUCKETS],
-    next: [Option<u16>; MAX_RECORDS],
+// Records are named by index, since memory is fixed: nothing here may allocate. The lists are lent and not held: as options, or moved, they would take several
+// times the stack.
+#[derive(Clone, Copy)]
+struct Buckets<'a> {
+    first: &'a [u16; BUCKETS],
+    next: &'a [u16; MAX_RECORDS],
 }
 
-impl Buckets {
-    fn new(table: &[u8]) -> Buckets
-        requires { InOrder table.now }
-        ensures { Linked table.now result.first result.next 0 }
+// The index of no record.
+const NONE: u16 = 1024;
+
+// A record by its index.
+#[tactic(auto, unfolding(crate::specs::Running::within))]
+fn some_record(index: u16) -> Option<usize>
+    ensures { result ≡ within index }
+{
+    let j = octets::numbers::wide(index);
+    if j < MAX_RECORDS { Some(j) } else { None }
+}
+
+impl Buckets<'_> {
+    // The first record of a bucket.
+    fn start(self, bucket: usize) -> Option<usize>
+        requires { bucket < 256 }
+        ensures { result ≡ within (get_or self.entry.first.now bucket 0) }
     {
-        let mut buckets = Buckets {
-            first: [None; BUCKETS],
-            next: [None; MAX_RECORDS],
-        };
-        for i in (0..plan::inside::count(table)).rev() {
-            buckets.link(table, i);
-        }
-        buckets
+        let first = self.first;
+        some_record(first[bucket])
     }
 
-    // The record i in front of those of its bucket that come after it.
-    fn link(&mut self, table: &[u8], i: usize)
-        requires { (i < count_of table.now) × (count_of table.now ≤ max_records) × Linked table.now self.old.first self.old.next (i + 1) }
-        ensures { Linked table.now self.new.first self.new.next i }
+    // The next record of its bucket after one.
+    fn after(self, j: usize) -> Option<usize>
+        requires { j < max_records }
+        ensures { result ≡ within (get_or self.entry.next.now j 0) }
     {
-        let b = bucket(plan::inside::owner_slot(plan::inside::row(table, i)));
-        self.next[i] = self.first[b];
-        self.first[b] = Some(i as u16);
+        let next = self.next;
+        some_record(next[j])
     }
+}
+
+// All records, in lists that have none.
+fn link_all(table: &[u8], first: &mut [u16; BUCKETS], next: &mut [u16; MAX_RECORDS])
+    requires { InOrder table.now × Linked table.now first.old next.old (count_of table.now) }
+    ensures { Linked table.now first.new next.new 0 }
+{
+    for i in (0..plan::inside::count(table)).rev() {
+        link(table, i, first, next);
+    }
+}
+
+// The record i in front of those of its bucket that come after it.
+fn link(table: &[u8], i: usize, first: &mut [u16; BUCKETS], next: &mut [u16; MAX_RECORDS])
+    requires { (i < count_of table.now) × (count_of table.now ≤ max_records) × Linked table.now first.old next.old (i + 1) }
+    ensures { Linked table.now first.new next.new i }
+{
+    let b = bucket(plan::inside::owner_slot(plan::inside::row(table, i)));
+    next[i] = first[b];
+    first[b] = i as u16;
 }
 
 // The bucket of a slot: slots of the same name share it.
@@ -203,7 +231,7 @@ impl Buckets {
 fn bucket(slot: &[u8; SLOT]) -> usize
     ensures { (result ≡ bucket_of slot.now) × (result < 256) }
 {
-    usize::from(plan::inside::mark(slot)) % BUCKETS
+    octets::numbers::wide(plan::inside::mark(slot)) % BUCKETS
 }
 
 // The rule's records, which go into the output as far as it has room; how many there are, or none where they are more than `most`.
@@ -211,10 +239,16 @@ fn put_all(table: &[u8], name: &[u8], most: usize, out: &mut [u8]) -> Option<usi
     requires { InOrder table.now × (in_standard_form name.now ≡ true) × (most ≤ max_records) }
     ensures { MatchOption result (most < length (fold_of name.now table.now)) (λ n. (n ≤ most) × (n ≡ length (fold_of name.now table.now)) × (out.new ≡ stored out.old 0 (fold_of name.now table.now))) }
 {
-    let buckets = Buckets::new(table);
+    let mut first = [NONE; BUCKETS];
+    let mut next = [NONE; MAX_RECORDS];
+    link_all(table, &mut first, &mut next);
+    let buckets = Buckets {
+        first: &first,
+        next: &next,
+    };
     let mut n = 0;
     for i in 0..plan::inside::count(table) {
-        n = put_place(table, name, i, &buckets, out, n);
+        n = put_place(table, name, i, buckets, out, n);
         if most < n {
             return None;
         }
@@ -228,11 +262,11 @@ fn put_place(
     table: &[u8],
     name: &[u8],
     i: usize,
-    buckets: &Buckets,
+    buckets: Buckets,
     out: &mut [u8],
     n: usize,
 ) -> usize
-    requires in_order { InOrder table.now × (in_standard_form name.now ≡ true) × Linked table.now buckets.now.first buckets.now.next 0 }
+    requires in_order { InOrder table.now × (in_standard_form name.now ≡ true) × Linked table.now buckets.first.now buckets.next.now 0 }
     requires i_bound { (i < count_of table.now) × (n ≤ max_records) }
     ensures value { result ≡ n + length (place_of name.now table.now i) }
     ensures out_after { out.new ≡ stored out.old n (place_of name.now table.now i) }
@@ -246,17 +280,16 @@ fn put_place(
 }
 
 // The records that the unfinished record r makes, from record n of the output on; where the next record goes.
-fn put_each(table: &[u8], r: &[u8; RECORD], buckets: &Buckets, out: &mut [u8], n: usize) -> usize
-    requires { InOrder table.now × Good r.now × (0 < prefix_of r.now) × (n ≤ max_records) × Linked table.now buckets.now.first buckets.now.next 0 }
+fn put_each(table: &[u8], r: &[u8; RECORD], buckets: Buckets, out: &mut [u8], n: usize) -> usize
+    requires { InOrder table.now × Good r.now × (0 < prefix_of r.now) × (n ≤ max_records) × Linked table.now buckets.first.now buckets.next.now 0 }
     ensures value { result ≡ n + length (up_to (count_of table.now) (made_of table.now r.now)) }
     ensures out_after { out.new ≡ stored out.old n (up_to (count_of table.now) (made_of table.now r.now)) }
 {
     let mut m = n;
-    let mut next = buckets.first[bucket(plan::inside::target_slot(r))];
+    let mut next = buckets.start(bucket(plan::inside::target_slot(r)));
     while let Some(j) = next {
-        let j = usize::from(j);
         m = put_made(r, plan::inside::row(table, j), out, m);
-        next = buckets.next[j];
+        next = buckets.after(j);
     }
     m
 }
@@ -280,7 +313,7 @@ fn put(row: &[u8; RECORD], out: &mut [u8], n: usize)
     ensures { out.new ≡ stored_one out.old n row.now }
 {
     if n < out.len() / RECORD {
-        out[n * RECORD..(n + 1) * RECORD].copy_from_slice(row);
+        octets::inside::copy_whole(row, &mut out[n * RECORD..(n + 1) * RECORD]);
     }
 }
 
@@ -294,12 +327,12 @@ fn put_joined(r: &[u8; RECORD], q: &[u8; RECORD], out: &mut [u8], n: usize)
         let high = *plan::inside::address_of(q);
         let low = *plan::inside::address_of(r);
         let parts = Parts {
-            kind: Kind::A6,
+            kind: Kind::A6.number(),
             prefix: plan::inside::prefix_of(q),
             address: address::join(high, low, plan::inside::prefix_of(r)),
             owner: plan::inside::owner_slot(r),
             target: plan::inside::target_slot(q),
-            ttl: plan::inside::ttl_of(r).min(plan::inside::ttl_of(q)),
+            ttl: octets::numbers::lesser(plan::inside::ttl_of(r), plan::inside::ttl_of(q)),
         };
         parts.write(out, n * RECORD);
     }

@@ -19,7 +19,7 @@ pub fn check(rdata: &[u8]) -> Result<Found<'_>, Refusal>
     if a6::inside::LONGEST < prefix {
         return Err(Refusal::Prefix);
     }
-    let whole = usize::from(prefix / 8);
+    let whole = octets::wide(prefix / 8);
     let suffix = &rdata[whole..16];
     let name = &rdata[FRONT..];
     let standard = a6::inside::ending(prefix, name)?;

@@ -24,7 +24,7 @@ pub fn write(value: Value, out: &mut [u8]) -> Result<Done, Refusal>
     ensures value { answered result ≡ draft_answer value (length out.old) }
     ensures out_after { out.new ≡ draft_out value (length out.old) }
 {
-    a6::inside::lay(&value, 16, out)
+    a6::inside::lay(value.lent(), 16, out)
 }
 
 pub mod inside;

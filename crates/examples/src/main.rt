@@ -88,7 +88,7 @@ impl Plans {
             } => self.add(
                 rt,
                 Parts {
-                    kind,
+                    kind: kind.number(),
                     prefix,
                     address,
                     owner: &owner,

@@ -29,12 +29,11 @@ pub fn set_fields(table: &[u8], targets: &[u16], fields: &mut [Fields])
     ensures { Fielded table.now targets.now fields.new (count_of table.now) }
 {
     for i in 0..plan::inside::count(table) {
-        let row = plan::inside::row(table, i);
         fields[i] = Fields {
-            address: Halves::at(plan::inside::address_of(row), 0),
-            ttl: plan::inside::ttl_of(row),
+            address: Halves::at(&plan::inside::address(table, i), 0),
+            ttl: plan::inside::ttl(table, i),
             target: targets[i],
-            length: plan::inside::prefix_of(row),
+            length: plan::inside::prefix(table, i),
         };
     }
 }

@@ -32,11 +32,12 @@ pub fn lookup(
 {
     octets::clear(out);
     octets::clear(ttls);
-    let held = plan::inside::enter(table, name)?;
+    let entered = plan::inside::enter(table, name);
+    entered.outcome?;
     if is_misfit(out.len(), ttls.len()) {
         return Err(Refused::from(Refusal::Output));
     }
-    let done = look(table, held.as_slice(), limit, out, ttls)?;
+    let done = look(table, entered.name.as_slice(), limit, out, ttls)?;
     Ok(done)
 }
 

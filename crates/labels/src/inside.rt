@@ -7,5 +7,5 @@ ghost use Rattle.labels.specs.Labels.{count_for};
 pub fn count(c: u8) -> usize
     ensures { (result ≡ count_for c) × (1 ≤ result) × (result ≤ 256) }
 {
-    if c == 0 { 256 } else { usize::from(c) }
+    if c == 0 { 256 } else { octets::wide(c) }
 }

@@ -43,9 +43,9 @@ pub fn scan(s: &[u8]) -> Result<Scanned, Refusal>
 
 // What one label gives: where it ends, and the bits of its run so far.
 #[derive(Clone, Copy)]
-struct Step {
-    end: usize,
-    run: usize,
+pub struct Step {
+    pub end: usize,
+    pub run: usize,
 }
 
 // The label at `at`, after `run` bits of a run: the tests of 01 (What comes back) in their order.
@@ -56,7 +56,7 @@ fn label(s: &[u8], at: usize, run: usize) -> Result<Step, Refusal>
     let x = s[at];
     // The lengths first: nearly every label is an ordinary one.
     if x < 64 {
-        let end = at + 1 + usize::from(x);
+        let end = at + 1 + octets::wide(x);
         if s.len() < end {
             return Err(Refusal::Short);
         }

@@ -41,7 +41,7 @@ fn look(input: &[u8], out: &mut [u8; 16 * ROOM]) -> Result<Done, Refused> {
 // The name and the table of an input. A slot that is missing or not zero after its name comes before too many octets.
 fn split(input: &[u8]) -> Result<(&[u8], &[u8]), Refusal> {
     let (slot, table) = input.split_first_chunk::<SLOT>().ok_or(Refusal::Given)?;
-    let end = 1 + usize::from(slot[0]);
+    let end = 1 + octets::wide(slot[0]);
     if !octets::zeros::is_blank(slot, end) {
         return Err(Refusal::Given);
     }

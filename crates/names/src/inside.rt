@@ -16,7 +16,7 @@ pub fn put_standard(name: &[u8], standard: bool, out: &mut [u8]) -> usize
     if !standard {
         return crate::merge(name, out);
     }
-    out[..name.len()].copy_from_slice(name);
+    octets::inside::copy_whole(name, &mut out[..name.len()]);
     name.len()
 }
 
@@ -88,7 +88,7 @@ fn past_letters(a: &[u8], b: &[u8], at: usize, end: usize) -> usize
     let mut i = at;
     // From label to label, whose sizes differ: no iterator goes so.
     while i < end && a[i] == b[i] && a[i] != 65 {
-        i += 1 + usize::from(a[i]);
+        i += 1 + octets::wide(a[i]);
     }
     i
 }

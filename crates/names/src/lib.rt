@@ -40,7 +40,7 @@ impl Name {
     pub fn as_slice(&self) -> &[u8]
         ensures { result.now ≡ take self.now.length self.now.octets }
     {
-        &self.octets[..usize::from(self.length)]
+        &self.octets[..octets::wide(self.length)]
     }
 }
 
@@ -147,7 +147,7 @@ fn next(name: &[u8], at: usize, to: usize, out: &mut [u8]) -> Place
             to: run.packer.flush(out),
         };
     }
-    let size = usize::from(x) + 1;
+    let size = octets::wide(x) + 1;
     octets::inside::copy(name, at, size, out, to);
     Place {
         at: at + size,

@@ -54,6 +54,10 @@ bit_part p = part_by (bits_formed p) (leb (count_in p) 256) (Bits (count_in p))
 unfoldable pub part_of : List ℕ → Result Part Refusal
 part_of p = elim (is_bits_text p) [ true ↦ bit_part p | false ↦ ordinary_part p ]
 
+-- a part that is a bit label
+abbrev pub IsBits : List ℕ → Type 0
+IsBits p = part_of p ≡ Ok (Bits (count_in p))
+
 -- a number as four times a whole and a rest, capped
 pub record Quartered (value cap : ℕ) (r : Quarters) : Type 0 where
   pub is : 4 * r.whole + r.rest ≡ min value cap

@@ -48,7 +48,7 @@ fn put_label(name: &[u8], at: usize, out: &mut [u8], to: usize) -> Place
         };
     }
     let a = at + 1;
-    let next = a + usize::from(x);
+    let next = a + octets::wide(x);
     let e = put_octets(&name[a..next], out, to);
     out[e] = b'.';
     Place {

@@ -10,8 +10,8 @@ ghost use Rattle.text.specs.Digits.{digit_in, is_digit, is_hex, leading};
 ghost use Rattle.text.specs.Decimal.{decimal_of};
 ghost use Rattle.nametext.specs.Characters.{is_plain, may_name};
 ghost use Rattle.nametext.specs.Writing.{digits_for};
-ghost use Rattle.nametext.specs.Reading.{octets_formed, octets_in, octets_ranged, is_bits_text, bit_octets, text_number, name_read, name_told, name_at};
-ghost use Rattle.nametext.specs.Places.{Dot, Ended, Stands, ordinary_part, bit_part, part_of, Quartered, run_size, tallied_word, tallied_bits, tallied, concluded, Low, rest_of, encode_rest, Standing, Filled, Ran, Moved};
+ghost use Rattle.nametext.specs.Reading.{octets_formed, octets_in, octets_ranged, is_bits_text, count_in, bit_octets, text_number, name_read, name_at};
+ghost use Rattle.nametext.specs.Places.{Dot, Ended, Stands, ordinary_part, bit_part, part_of, IsBits, Quartered, run_size, tallied_word, tallied_bits, tallied, concluded, Low, rest_of, encode_rest, Standing, Filled, Ran, Moved};
 
 use bits::inside::Packer;
 use names::{Name, Place, Run};
@@ -63,18 +63,18 @@ pub fn read_name(s: &[u8], from: usize) -> Named
             next,
         };
     }
-    Named {
-        name: read_text(&s[from..next]),
-        next,
+    let text = &s[from..next];
+    // The name is made where it is handed out: each function between would copy it once more.
+    match judge(text) {
+        Ok(()) => Named {
+            name: Ok(name_in(text)),
+            next,
+        },
+        Err(refusal) => Named {
+            name: Err(refusal),
+            next,
+        },
     }
-}
-
-// Reads a text as a name.
-fn read_text(text: &[u8]) -> Result<Name, Refusal>
-    ensures { result ≡ name_told text.now }
-{
-    judge(text)?;
-    Ok(name_in(text))
 }
 
 // Whether an octet may stand in a name: they are in three ranges and an underscore.
@@ -523,9 +523,7 @@ fn pack_run(text: &[u8], at: usize, sum: usize, to: usize, out: &mut [u8]) -> Ru
         };
     }
     let e = next_dot(text, at);
-    let Ok(Part::Bits(n)) = read_part(&text[at..e]) else {
-        unreachable!()
-    };
+    let n = bits_in(&text[at..e]);
     // Lent on by `[..]` and not by its own name, the slice stays in registers.
     let run = pack_run(&text[..], e + 1, sum + n, to, out);
     let packer = append_digits(&text[at..e], n, out, run.packer);
@@ -533,6 +531,19 @@ fn pack_run(text: &[u8], at: usize, sum: usize, to: usize, out: &mut [u8]) -> Ru
         end: run.end,
         packer,
     }
+}
+
+// The bits of a part that is a bit label.
+// Apart from `pack_run`, which calls itself: what is read of a label does not lie on the stack once for each label of a run.
+#[inline(never)]
+fn bits_in(p: &[u8]) -> usize
+    requires { IsBits p.now }
+    ensures { result ≡ count_in p.now }
+{
+    let Ok(Part::Bits(n)) = read_part(p) else {
+        unreachable!()
+    };
+    n
 }
 
 // The first n bits of the hex digits of a bit label, after those that are packed.

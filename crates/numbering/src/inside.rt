@@ -128,14 +128,14 @@ impl<'a> Names<'a> {
         requires { (Holds slot.now) × (bucket ≡ bucket_of slot.now) }
         ensures { MatchOption result (number_in (names_in self.now) (name_in slot.now) ≡ self.now.count) (λ k. (k ≡ number_in (names_in self.now) (name_in slot.now)) × (k < self.now.count)) }
     {
-        let mut next = usize::from(self.head[bucket]);
+        let mut next = octets::numbers::wide(self.head[bucket]);
         while 0 < next {
             let number = next - 1;
-            let listed = slot_at(self.table, usize::from(self.places[number]));
+            let listed = slot_at(self.table, octets::numbers::wide(self.places[number]));
             if plan::inside::same(listed, slot) {
                 return Some(number);
             }
-            next = usize::from(self.link[number]);
+            next = octets::numbers::wide(self.link[number]);
         }
         None
     }
@@ -171,5 +171,5 @@ fn slot_at(table: &[u8], place: usize) -> &[u8; SLOT]
 fn bucket_of(slot: &[u8; SLOT]) -> usize
     ensures { result ≡ bucket_of slot.now }
 {
-    usize::from(plan::inside::mark(slot)) % BUCKETS
+    octets::numbers::wide(plan::inside::mark(slot)) % BUCKETS
 }

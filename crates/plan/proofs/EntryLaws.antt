@@ -1,12 +1,12 @@
 -- Laws of the number that a table and a given name earn together.
 use Prim.Native.Nat.{ℕ, zero, suc, ◌≤◌, ◌<◌}
-use mathlib.Core.Path.{◌≡◌, refl, sym, ◌∙◌}
+use mathlib.Core.Path.{◌≡◌, refl, sym, ◌∙◌, subst}
 use mathlib.Core.Bool.{Bool, true, false, not}
 use mathlib.Core.List.{List}
 use lib.ListN.{length, take}
 use native.Mathlib.Omega.{arith}
 use borrow.Author.Tests.{not-false}
-use Rattle.std.specs.Prelude.{⊤, Ok, Err}
+use Rattle.std.specs.Prelude.{⊤, Result, Ok, Err, MatchResult}
 use Rattle.octets.specs.Octets.{Small}
 use Rattle.octets.specs.declared.Done.{Done}
 use Rattle.octets.specs.declared.Refusal.{Refusal}
@@ -54,6 +54,14 @@ module _ (t name : List ℕ) where
   entry_zero e =
       let z = else_zero (check_of t) _ e in
       (z.0, not-false (well_formed name) (earns_zero (not (well_formed name)) 3 0 z.1).0)
+
+-- what a table and a name earn, by what came of it
+module _ {A : Type 0} (t name : List ℕ) where
+  pub entered_ok : (r : Result A Refused) (x : A) → r ≡ Ok x → MatchResult r (λ x. entry_number t name ≡ 0) (λ x. (code_of x.refusal ≡ entry_number t name) × (x.fault ≡ fault_in t)) → entry_number t name ≡ 0
+  entered_ok r x e h = subst (λ (s : Result A Refused). MatchResult s (λ x. entry_number t name ≡ 0) (λ x. (code_of x.refusal ≡ entry_number t name) × (x.fault ≡ fault_in t))) e h
+
+  pub entered_err : (r : Result A Refused) (x : Refused) → r ≡ Err x → MatchResult r (λ x. entry_number t name ≡ 0) (λ x. (code_of x.refusal ≡ entry_number t name) × (x.fault ≡ fault_in t)) → (code_of x.refusal ≡ entry_number t name) × (x.fault ≡ fault_in t)
+  entered_err r x e h = subst (λ (s : Result A Refused). MatchResult s (λ x. entry_number t name ≡ 0) (λ x. (code_of x.refusal ≡ entry_number t name) × (x.fault ≡ fault_in t))) e h
 
 -- what `enter` gives to one that takes n octets of the name that it holds: a table in order, and the name's standard form
 pub record Enters (t name : List ℕ) (held : Name) (n : ℕ) : Type 0 where

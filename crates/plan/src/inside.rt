@@ -1,5 +1,5 @@
 // What only our own layers call: the fields of a record by its index, and slots of names, compared and marked. Nobody else knows where a field stands.
-ghost use Rattle.std.specs.Prelude.{◌≡◌, ◌+◌, ◌*◌, ◌^◌, ◌≤◌, ◌<◌, eqb, length, get_or, true, false, MatchOption, MatchResult};
+ghost use Rattle.std.specs.Prelude.{◌≡◌, ◌+◌, ◌*◌, ◌^◌, ◌≤◌, ◌<◌, eqb, length, get_or, true, false, not, MatchOption, MatchResult};
 ghost use Rattle.std.proofs.Math.Seq.{paste};
 ghost use Rattle.octets.specs.Refusals.{code_of};
 ghost use Rattle.names.specs.Standard.{same_name};
@@ -7,7 +7,8 @@ ghost use Rattle.chains.specs.Lists.{pick};
 ghost use Rattle.plan.specs.Layout.{record_size, max_records, owner_place, name_room, slot_size, type_of, is_a6, is_dname, prefix_of, zero_of, address_of, owner_slot, target_slot, ttl_of, name_in, slot_of, record_of, count_of, record_at, prefix_at, address_at, owner_at, target_at, ttl_at};
 ghost use Rattle.plan.specs.Records.{kind_number};
 ghost use Rattle.names.specs.Name.{name_of, held_of};
-ghost use Rattle.plan.specs.Check.{targetless, entry_number};
+ghost use Rattle.octets.specs.Answers.{earns, or_else};
+ghost use Rattle.plan.specs.Check.{targetless, check_of, entry_number};
 ghost use Rattle.plan.specs.Faults.{fault_in};
 ghost use Rattle.plan.specs.Good.{Holds};
 ghost use Rattle.plan.specs.Marks.{pair_at, masked_at, term_at, sum_to, sum_of, mark_of, alike_of};
@@ -32,11 +33,20 @@ const TTL: usize = 532;
 // The octets of a slot: its length, and the most that a name has.
 pub const SLOT: usize = 256;
 
-// The types of records: `as u16` gives the number.
+// The types of records.
 #[derive(Clone, Copy, Debug, PartialEq, Eq)]
 pub enum Kind {
     A6 = 38,
     Dname = 39,
+}
+
+impl Kind {
+    // The number of a type.
+    pub fn number(self) -> u16
+        ensures { result ≡ kind_number self }
+    {
+        self as u16
+    }
 }
 
 // All bits of the four octets of a word but the one of each that tells the case of a letter (T-03).
@@ -52,15 +62,36 @@ pub struct Fields {
     pub ttl: u32,
 }
 
+// What a table and a given name earn together: whether both are taken, and, whichever it is, the name in standard form, none where it is malformed.
+#[derive(Clone, Copy)]
+pub struct Entered {
+    pub outcome: Result<(), Refused>,
+    pub name: names::Name,
+}
+
 // The entry of each operation on a table and a given name: the check of the table, then the name, of which the standard form comes back.
-pub fn enter(table: &[u8], name: &[u8]) -> Result<names::Name, Refused>
-    ensures { MatchResult result (λ held. (entry_number table.now name.now ≡ 0) × (held ≡ held_of name.now)) (λ refused. (code_of refused.refusal ≡ entry_number table.now name.now) × (refused.fault ≡ fault_in table.now)) }
+// Apart from its callers: what it makes on the way to the name does not lie on the stack while they work.
+#[inline(never)]
+pub fn enter(table: &[u8], name: &[u8]) -> Entered
+    ensures outcome { MatchResult result.outcome (λ _. entry_number table.now name.now ≡ 0) (λ refused. (code_of refused.refusal ≡ entry_number table.now name.now) × (refused.fault ≡ fault_in table.now)) }
+    ensures name { result.name ≡ held_of name.now }
+{
+    let held = names::hold(name);
+    Entered {
+        outcome: admit(table, held.is_some()),
+        name: held.unwrap_or(names::Name::none()),
+    }
+}
+
+// Whether a table is taken, and then a name of which it is known whether it is well formed.
+fn admit(table: &[u8], formed: bool) -> Result<(), Refused>
+    ensures { MatchResult result (λ _. or_else (check_of table.now) (earns (not formed) 4 0) ≡ 0) (λ refused. (code_of refused.refusal ≡ or_else (check_of table.now) (earns (not formed) 4 0)) × (refused.fault ≡ fault_in table.now)) }
 {
     crate::check(table)?;
-    let Some(held) = names::hold(name) else {
+    if !formed {
         return Err(Refused::from(Refusal::Given));
-    };
-    Ok(held)
+    }
+    Ok(())
 }
 
 // How many records a table has.
@@ -84,10 +115,7 @@ pub fn one_a6(row: &[u8]) -> Option<&[u8; RECORD]>
     ensures { MatchOption result (one_a6 row.now ≡ false) (λ whole. (whole.now ≡ row.now) × (one_a6 row.now ≡ true)) }
 {
     let whole = row.as_array()?;
-    if crate::first_field(whole).is_some() {
-        return None;
-    }
-    if !is_a6(whole) {
+    if !crate::is_a6(row) {
         return None;
     }
     Some(whole)
@@ -157,7 +185,7 @@ pub fn ttl(table: &[u8], index: usize) -> u32
 }
 
 // The number of a record's type.
-fn type_of(row: &[u8; RECORD]) -> u16
+pub fn kind_of(row: &[u8; RECORD]) -> u16
     ensures { result ≡ type_of row.now }
 {
     u16::from_be_bytes([row[0], row[1]])
@@ -167,14 +195,14 @@ fn type_of(row: &[u8; RECORD]) -> u16
 pub fn is_a6(row: &[u8; RECORD]) -> bool
     ensures { result ≡ is_a6 row.now }
 {
-    type_of(row) == Kind::A6 as u16
+    kind_of(row) == Kind::A6 as u16
 }
 
 // Whether a record is a DNAME record.
 pub fn is_dname(row: &[u8; RECORD]) -> bool
     ensures { result ≡ is_dname row.now }
 {
-    type_of(row) == Kind::Dname as u16
+    kind_of(row) == Kind::Dname as u16
 }
 
 // The fields of a record.
@@ -233,13 +261,13 @@ pub fn name_in(slot: &[u8; SLOT]) -> &[u8]
 pub fn fill_in(slot: &[u8; SLOT]) -> usize
     ensures { result ≡ 1 + get_or slot.now 0 0 }
 {
-    1 + usize::from(slot[0])
+    1 + octets::wide(slot[0])
 }
 
 // The fields of a record, the names as slots.
 #[derive(Clone, Copy)]
 pub struct Parts<'a> {
-    pub kind: Kind,
+    pub kind: u16,
     pub prefix: u8,
     pub address: [u8; 16],
     pub owner: &'a [u8; SLOT],
@@ -251,7 +279,7 @@ impl Parts<'_> {
     // The record, at a place of the output.
     pub fn write(self, out: &mut [u8], to: usize)
         requires { to + record_size ≤ length out.old }
-        ensures { out.new ≡ paste out.old to (record_of (kind_number self.entry.kind) self.entry.prefix self.entry.address self.entry.owner.now self.entry.target.now self.entry.ttl) record_size }
+        ensures { out.new ≡ paste out.old to (record_of self.entry.kind self.entry.prefix self.entry.address self.entry.owner.now self.entry.target.now self.entry.ttl) record_size }
     {
         let Parts {
             kind,
@@ -261,7 +289,7 @@ impl Parts<'_> {
             target,
             ttl,
         } = self;
-        let [high, low] = (kind as u16).to_be_bytes();
+        let [high, low] = kind.to_be_bytes();
         let life = octets::numbers::quarter_octets(ttl);
         octets::inside::copy(&[high, low, prefix, 0], 0, 4, out, to);
         octets::inside::copy(&address, 0, 16, out, to + ADDRESS);
@@ -310,7 +338,7 @@ pub fn write_fields(fields: Fields, out: &mut [u8], to: usize)
     let owner = slot_for(owner);
     let target = slot_for(target);
     let parts = Parts {
-        kind: Kind::A6,
+        kind: Kind::A6.number(),
         prefix,
         address,
         owner: &owner,
@@ -362,14 +390,14 @@ fn same_spelt(a: &[u8; SLOT], b: &[u8; SLOT]) -> bool
         return false;
     }
     let k = pieces(n);
-    names::inside::same_labels(&a[..k], &b[..k], 1, 1 + usize::from(n))
+    names::inside::same_labels(&a[..k], &b[..k], 1, 1 + octets::wide(n))
 }
 
 // The octets of a slot that are compared where its name has so many: a multiple of 32.
 fn pieces(n: u8) -> usize
     ensures { (1 + n ≤ result) × (result ≤ slot_size) }
 {
-    usize::from(n) / 32 * 32 + 32
+    octets::wide(n) / 32 * 32 + 32
 }
 
 // Whether the first 32 octets of two slots are the same and hold their names whole: most names that are the same are told by this alone.

@@ -74,15 +74,11 @@ impl From<Result<Done, Refused>> for Reply {
     fn from(outcome: Result<Done, Refused>) -> Reply {
         match outcome {
             Ok(done) => Reply {
-                answer: Answer {
-                    number: 0,
-                    count: done.count,
-                    work: done.work,
-                },
+                answer: Answer::from(Ok(done)),
                 fault: NO_PLACE,
             },
             Err(refused) => Reply {
-                answer: octets::refused(refused.refusal as u8),
+                answer: Answer::from(Err(refused.refusal)),
                 fault: refused.fault,
             },
         }
@@ -145,7 +141,10 @@ pub fn check(table: &[u8]) -> Result<(), Refused>
 pub fn is_a6(row: &[u8]) -> bool
     ensures { result ≡ one_a6 row.now }
 {
-    inside::one_a6(row).is_some()
+    match row.as_array() {
+        Some(whole) => first_field(whole).is_none() && inside::is_a6(whole),
+        None => false,
+    }
 }
 
 // The part of the table that the owner of a record takes, without the length octet: empty for a bad index and for a table that is not in order.

@@ -65,7 +65,7 @@ fn walk(table: &[u8], name: &[u8], limit: u8, done: u8, out: &mut [u8]) -> Resul
 {
     let Some(best) = choose(table, name) else {
         let n = name.len();
-        out[..n].copy_from_slice(name);
+        octets::inside::copy_whole(name, &mut out[..n]);
         return Ok(Done {
             count: n as u32,
             work: u32::from(done),
@@ -90,6 +90,8 @@ pub struct Best {
 }
 
 // Of the DNAMEs that apply to a name, the one with most units in its owner.
+// Apart from `walk`, which calls itself: what this function works with does not lie on the stack once for each rewrite.
+#[inline(never)]
 fn choose(table: &[u8], name: &[u8]) -> Option<Best>
     requires { InOrder table.now × Standing name.now }
     ensures { Chosen table.now name.now (count_of table.now) result }

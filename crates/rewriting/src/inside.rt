@@ -49,7 +49,7 @@ fn pass(name: &[u8], at: usize) -> Turn
         };
     }
     Turn {
-        end: at + 1 + usize::from(x),
+        end: at + 1 + octets::wide(x),
         units: 1,
     }
 }

@@ -97,7 +97,7 @@ impl Chain {
     {
         Chain {
             address: joined(fields.address, self.address, self.bound),
-            ttl: self.ttl.min(fields.ttl),
+            ttl: octets::numbers::lesser(self.ttl, fields.ttl),
             bound: fields.length,
         }
     }
@@ -130,7 +130,7 @@ impl Search<'_, '_, '_> {
             }
         } else {
             let n = self.records.owners.len();
-            let target = usize::from(fields.target);
+            let target = octets::numbers::wide(fields.target);
             self.lists.unlink(i);
             let first = self.lists.after(n + target);
             if first < n {

@@ -26,7 +26,7 @@ impl Lists {
         requires { node < max_nodes }
         ensures { result ≡ get_or self.now.next node 0 }
     {
-        usize::from(self.next[node])
+        octets::numbers::wide(self.next[node])
     }
 
     // Every record at the end of its owner's list, in order.
@@ -38,9 +38,9 @@ impl Lists {
         alone(&mut self.prev);
         let n = owners.len();
         for (i, owner) in owners.iter().enumerate() {
-            let ends = n + usize::from(*owner);
+            let ends = n + octets::numbers::wide(*owner);
             let last = self.prev[ends];
-            self.next[usize::from(last)] = i as u16;
+            self.next[octets::numbers::wide(last)] = i as u16;
             self.next[i] = ends as u16;
             self.prev[ends] = i as u16;
             self.prev[i] = last;

@@ -1,5 +1,6 @@
 -- `a6plan::write_from` meets its contract: 5 in front, then the answer and the output of the writer.
 use Rattle.std.proofs.Common.{◌≡◌, true, length, ap, ◌∙◌}
+use Rattle.a6.proofs.AcceptedLaws.{same_answer, same_out}
 use Rattle.a6plan.specs.Exports.{value_in, misfit}
 use Rattle.a6plan.proofs.ExportLaws.{fitting, misfit_value, misfit_figures, unwritten, written}
 use Rattle.a6plan.proofs.write_from.Goals.{in_default-via-in-Some+else-figures-eq2, in_default-via-in_default}
@@ -10,7 +11,8 @@ returns-in-Some c =
     let w = c.in-Some.ensures.cases in
     let v = c.value_in.ensures ∙ ap value_in w.same in
     let o = c.lay-outcome.ensures in
-    let y = written _ _ _ _ _ (fitting _ _ w.long c.if-figures-eq2.true) (rw v at o.value, rw v at o.out_after) (c.figure.ensures.number, c.figure.ensures.figured) in
+    let m = length c.args.out.now in
+    let y = written _ _ _ _ _ (fitting _ _ w.long c.if-figures-eq2.true) (o.value ∙ same_answer _ _ c.args.before m v, o.out_after ∙ same_out _ _ c.args.before m v) (c.figure.ensures.number, c.figure.ensures.figured) in
     record { number = y.0; output = y.1.0; figured = y.1.1 }
 
 pub returns-in_default : goal.returns-in_default

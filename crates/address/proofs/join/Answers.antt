@@ -29,7 +29,7 @@ loop-k-preserved c =
     let l = c.loop-k in
     let a = c.args in
     let n = long here in
-    let e = octet_chosen a.high a.low a.at (search rules) (search rules) (small_high here) (small_low here) l.k c.from-place.result c.mix-mixed.result c.octet.result (omega arith) c.from-place.ensures c.mix-mixed.ensures c.octet.ensures in (
+    let e = octet_chosen a.high a.low a.at (search rules) (search rules) (small_high here) (small_low here) l.k c.wide-place.result c.mix-mixed.result c.octet.result (omega arith) c.wide-place.ensures.0 c.mix-mixed.ensures c.octet.ensures in (
       simp length-set l.invariant.0,
       same_more l.out (join_of a.high a.low a.at) l.k c.octet.result (omega arith) (omega arith) l.invariant.1 e,
     )

@@ -9,29 +9,34 @@ use Rattle.std.proofs.lemmas.Result.{err_from_is_err_and}
 use Rattle.octets.specs.declared.Refusal.TheVariants.{Output}
 use Rattle.octets.proofs.AnswerLaws.{not_nought, refused_answer}
 use Rattle.octets.proofs.RefusalLaws.{code_some}
+use Rattle.plan.specs.Check.{entry_number}
 use Rattle.plan.specs.Faults.{replying}
-use Rattle.plan.proofs.EntryLaws.{Enters, enters, reply_done, reply_refused, reply_fault}
+use Rattle.plan.proofs.EntryLaws.{Enters, enters, entered_ok, entered_err, reply_done, reply_refused, reply_fault}
 use Rattle.collapse.proofs.CollapseLaws.{number_entry, number_output, given_same}
-use Rattle.collapse.proofs.fill.Goals.{In_ok-held}
+use Rattle.collapse.proofs.fill.Goals.{In_ok-entered}
 use Rattle.collapse.proofs.fill.Goals as goal
 
 -- what is entered: a table in order, and the name's standard form
-entered : (c : In_ok-held) → Enters c.args.table.now c.args.name.now c.in_ok-held.held c.in_ok-held.held.length
-entered c =
-    let l : length c.in_ok-held.held.octets ≡ 255 = search rules in
-    let m : c.in_ok-held.held.length < 256 = search rules in
-    enters _ _ c.in_ok-held.held _ l c.in_ok-held.ensures (refl, m)
+zero : (c : In_ok-entered) → entry_number c.args.table.now c.args.name.now ≡ 0
+zero c = entered_ok _ _ _ _ c.in_ok-entered.was c.enter-entered.ensures.outcome
 
-small : (c : In_ok-held) → Small c.args.name.now
+entered : (c : In_ok-entered) → Enters c.args.table.now c.args.name.now c.enter-entered.result.name c.enter-entered.result.name.length
+entered c =
+    let h = c.enter-entered.result.name in
+    let l : length h.octets ≡ 255 = search rules in
+    let m : h.length < 256 = search rules in
+    enters _ _ h _ l (zero c, c.enter-entered.ensures.name) (refl, m)
+
+small : (c : In_ok-entered) → Small c.args.name.now
 small c i = omega (arith, c.type_inv.name i)
 
-pub returns-in_err-held : goal.returns-in_err-held
-returns-in_err-held c =
+pub returns-in_err-entered : goal.returns-in_err-entered
+returns-in_err-entered c =
     let t = c.args.table.now in
     let x = c.args.name.now in
     let size = length c.args.out.now in
     let p = err_from_is_err_and c.from_residual.result c.from_residual.ensures.1 in
-    let w = c.in_err-held.ensures in
+    let w = entered_err t x _ _ c.in_err-entered.was c.enter-entered.ensures.outcome in
     let e = w.0 ∙ sym (number_entry t x size (λ h. code_some _ (w.0 ∙ h))) in
     record { reply = rw (p.1, p.2) (reply_fault t _ w.1 ∙ ap (replying t) (refused_answer _ _ e (code_some _) _ 0)); output = rw p.1 tt }
 
@@ -39,20 +44,20 @@ pub returns-then-out-ne0-clause-reply : goal.returns-then-out-ne0-clause-reply
 returns-then-out-ne0-clause-reply c =
     let t = c.args.table.now in
     let x = c.args.name.now in
-    let k = entered (goal.at.returns-then-out-ne0-clause-reply c).In_ok-held in
-    let e = number_output t x (length c.args.out.now) c.in_ok-held.ensures.0 c.if-out-ne0.true in
+    let k = entered (goal.at.returns-then-out-ne0-clause-reply c).In_ok-entered in
+    let e = number_output t x (length c.args.out.now) (zero (goal.at.returns-then-out-ne0-clause-reply c).In_ok-entered) c.if-out-ne0.true in
     rw c.from.ensures (reply_refused t k.order Output ∙ ap (replying t) (refused_answer 5 _ (sym e) (not_nought 4) _ 0))
 
 pub fold-requires : goal.fold-requires
 fold-requires c =
-    let here = (goal.at.fold-requires c).In_ok-held in
+    let here = (goal.at.fold-requires c).In_ok-entered in
     let k = entered here in
     (k.order, rw c.as_slice.ensures (k.standing (small here)), c.if-out-ne0.false)
 
 pub returns-in_err-done : goal.returns-in_err-done
 returns-in_err-done c =
     let t = c.args.table.now in
-    let here = (goal.at.returns-in_err-done c).In_ok-held in
+    let here = (goal.at.returns-in_err-done c).In_ok-entered in
     let k = entered here in
     let p = err_from_is_err_and c.from_residual-in_err-done.result c.from_residual-in_err-done.ensures.1 in
     let g = given_same t c.args.name.now _ (length c.args.out.now) (small here) k.formed (c.as_slice.ensures ∙ k.part) in
@@ -61,7 +66,7 @@ returns-in_err-done c =
 pub returns : goal.returns
 returns c =
     let t = c.args.table.now in
-    let here = (goal.at.returns c).In_ok-held in
+    let here = (goal.at.returns c).In_ok-entered in
     let k = entered here in
     let g = given_same t c.args.name.now _ (length c.args.out.now) (small here) k.formed (c.as_slice.ensures ∙ k.part) in
     record { reply = reply_done t k.order c.in_ok-done.done ∙ ap (replying t) (c.in_ok-done.ensures.answer ∙ g.0); output = c.in_ok-done.ensures.output ∙ g.1 }

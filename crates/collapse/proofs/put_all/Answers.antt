@@ -4,6 +4,7 @@ use native.Mathlib.Omega.{arith}
 use Rattle.plan.specs.Layout.{count_of}
 use Rattle.collapse.specs.Fold.{place_of}
 use Rattle.collapse.proofs.RunningLaws.{count_start, stored_start, count_turn, stored_turn, put_whole, put_over}
+use Rattle.collapse.proofs.LinkLaws.{linked_start}
 use Rattle.collapse.proofs.put_all.Goals as goal
 
 pub loop-i-init : goal.loop-i-init
@@ -11,8 +12,11 @@ loop-i-init c =
     let f = place_of c.args.name.now c.args.table.now in
     (omega arith, count_start f 0, stored_start f c.args.out.now 0)
 
+pub link_all-requires : goal.link_all-requires
+link_all-requires c = (c.requires.0, linked_start c.args.table.now c.requires.0)
+
 pub put_place-n-requires : goal.put_place-n-requires
-put_place-n-requires c = record { in_order = (c.requires.0, c.requires.1, c.new-buckets.ensures); i_bound = (omega arith, omega (arith, c.loop-i.invariant.0, c.requires.2)) }
+put_place-n-requires c = record { in_order = (c.requires.0, c.requires.1, c.link_all.ensures); i_bound = (omega arith, omega (arith, c.loop-i.invariant.0, c.requires.2)) }
 
 pub returns-then-most-n : goal.returns-then-most-n
 returns-then-most-n c =

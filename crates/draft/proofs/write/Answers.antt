@@ -3,7 +3,7 @@ use mathlib.Core.Path.{◌≡◌, ◌∙◌}
 use lib.ListN.{length}
 use native.Mathlib.Omega.{arith}
 use borrow.Author.Rules.{rules}
-use Rattle.a6.proofs.AcceptedLaws.{laid_answer, laid_out}
+use Rattle.a6.proofs.AcceptedLaws.{laid_answer, laid_out, same_answer, same_out}
 use Rattle.draft.proofs.DataLaws.{data_laid}
 use Rattle.draft.proofs.write.Goals as goal
 
@@ -11,10 +11,10 @@ pub returns-clause-value : goal.returns-clause-value
 returns-clause-value c =
     let v = c.args.value in
     let long : length v.address ≡ 16 = search rules in
-    c.lay.ensures.value ∙ laid_answer v 16 _ (data_laid v (omega (arith, long))) _
+    c.lay.ensures.value ∙ same_answer _ _ 16 (length c.args.out.now) c.lent.ensures ∙ laid_answer v 16 _ (data_laid v (omega (arith, long))) _
 
 pub returns-clause-out_after : goal.returns-clause-out_after
 returns-clause-out_after c =
     let v = c.args.value in
     let long : length v.address ≡ 16 = search rules in
-    c.lay.ensures.out_after ∙ laid_out v 16 _ (data_laid v (omega (arith, long))) _
+    c.lay.ensures.out_after ∙ same_out _ _ 16 (length c.args.out.now) c.lent.ensures ∙ laid_out v 16 _ (data_laid v (omega (arith, long))) _

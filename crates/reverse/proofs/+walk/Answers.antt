@@ -30,17 +30,17 @@ goes_on t c =
 pub choose-requires : goal.choose-requires
 choose-requires t c = c.requires.in_order
 
-pub slice_bounds-copy_from_slice-end : goal.slice_bounds-copy_from_slice-end
-slice_bounds-copy_from_slice-end t c = let s = sizes t (goal.at.slice_bounds-copy_from_slice-end t c).Start in omega arith
+pub slice_bounds-copy_whole-end : goal.slice_bounds-copy_whole-end
+slice_bounds-copy_whole-end t c = let s = sizes t (goal.at.slice_bounds-copy_whole-end t c).Start in omega arith
 
-pub slice_bounds-copy_from_slice-end-in_default : goal.slice_bounds-copy_from_slice-end-in_default
-slice_bounds-copy_from_slice-end-in_default t c =
-    let s = sizes t (goal.at.slice_bounds-copy_from_slice-end-in_default t c).Start in
+pub slice_bounds-copy_whole-end-in_default : goal.slice_bounds-copy_whole-end-in_default
+slice_bounds-copy_whole-end-in_default t c =
+    let s = sizes t (goal.at.slice_bounds-copy_whole-end-in_default t c).Start in
     sym (length-take-le (length c.args.name.now) c.args.out.now (omega arith))
 
-pub copy_from_slice-requires : goal.copy_from_slice-requires
-copy_from_slice-requires t c =
-    let s = sizes t (goal.at.copy_from_slice-requires t c).Start in
+pub copy_whole-requires : goal.copy_whole-requires
+copy_whole-requires t c =
+    let s = sizes t (goal.at.copy_whole-requires t c).Start in
     length-take-le (length c.args.name.now) c.args.out.now (omega arith)
 
 pub returns-in_default : goal.returns-in_default
@@ -49,7 +49,7 @@ returns-in_default t c =
     let r = reply_ended (walking c.requires.in_order.0 c.requires.in_order.1 c.in_default.ensures) c.args.limit c.args.done (λ i. omega (arith, c.type_inv.name i)) in
     record {
       value = ap (answering (length c.args.name.now)) c.from.ensures ∙ r.0;
-      out_after = name_copied c.args.out.now _ c.args.name.now c.requires.done_bound.1 c.copy_from_slice.ensures.after s.0 ∙ r.1;
+      out_after = name_copied c.args.out.now _ c.args.name.now c.requires.done_bound.1 c.copy_whole.ensures s.0 ∙ r.1;
     }
 
 pub returns-then-limit-eq0 : goal.returns-then-limit-eq0

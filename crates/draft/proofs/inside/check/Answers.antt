@@ -45,9 +45,9 @@ invariant_of-result c =
     let octets : Small c.args.rdata.now = λ i. omega (arith, c.type_inv.rdata i) in
     record {
       low = omega arith;
-      whole = last_long c.args.rdata.now (fronted here) c.from-whole.result c.from-whole.ensures;
+      whole = last_long c.args.rdata.now (fronted here) c.wide-whole.result c.wide-whole.ensures.0;
       ended = sym c.in_ok-standard.ensures.number;
-      suffix_small = small_take _ _ (small_drop c.from-whole.result _ octets);
+      suffix_small = small_take _ _ (small_drop c.wide-whole.result _ octets);
       name_small = small_take _ _ (small_drop 17 _ octets);
       told = c.in_ok-standard.ensures.standard;
     }
@@ -58,5 +58,5 @@ returns c =
     let d = c.args.rdata.now in
     let l = prefix_part d in (
       c.in_ok-standard.ensures.number ∙ number here,
-      ap (value_from l (in_last l (take (16 - c.from-whole.result) (drop c.from-whole.result d)))) (name here) ∙ value_parts d (fronted here) c.from-whole.result c.from-whole.ensures,
+      ap (value_from l (in_last l (take (16 - c.wide-whole.result) (drop c.wide-whole.result d)))) (name here) ∙ value_parts d (fronted here) c.wide-whole.result c.wide-whole.ensures.0,
     )

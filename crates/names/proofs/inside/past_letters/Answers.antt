@@ -8,6 +8,6 @@ pub loop-i-preserved : goal.loop-i-preserved
 loop-i-preserved c =
     let a = c.args in
     let l = c.loop-i in
-    let i = l.i + (1 + c.from.result) in
-    let w = walk_letters a.a.now a.b.now a.end c.requires.0 c.requires.1 l.i (omega arith) c.if-a-i.true i (omega (arith, c.from.ensures)) c.if-a-i-ne65.true in
+    let i = l.i + (1 + c.wide.result) in
+    let w = walk_letters a.a.now a.b.now a.end c.requires.0 c.requires.1 l.i (omega arith) c.if-a-i.true i (omega (arith, c.wide.ensures.0)) c.if-a-i-ne65.true in
     (omega arith, sym w ∙ l.invariant.1)

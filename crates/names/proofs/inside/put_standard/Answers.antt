@@ -17,18 +17,18 @@ fits c =
     let l = ap length c.requires.2 ∙ length_blank 255 in
     omega arith
 
-pub slice_bounds-copy_from_slice-end : goal.slice_bounds-copy_from_slice-end
-slice_bounds-copy_from_slice-end c = fits (goal.at.slice_bounds-copy_from_slice-end c).Else-not-standard
+pub slice_bounds-copy_whole-end : goal.slice_bounds-copy_whole-end
+slice_bounds-copy_whole-end c = fits (goal.at.slice_bounds-copy_whole-end c).Else-not-standard
 
-pub slice_bounds-copy_from_slice-end-2 : goal.slice_bounds-copy_from_slice-end-2
-slice_bounds-copy_from_slice-end-2 c = let f = fits (goal.at.slice_bounds-copy_from_slice-end-2 c).Else-not-standard in search rules
+pub slice_bounds-copy_whole-end-2 : goal.slice_bounds-copy_whole-end-2
+slice_bounds-copy_whole-end-2 c = let f = fits (goal.at.slice_bounds-copy_whole-end-2 c).Else-not-standard in search rules
 
-pub copy_from_slice-requires : goal.copy_from_slice-requires
-copy_from_slice-requires c = length-take-le (length c.args.name.now) c.args.out.now (fits (goal.at.copy_from_slice-requires c).Else-not-standard)
+pub copy_whole-requires : goal.copy_whole-requires
+copy_whole-requires c = length-take-le (length c.args.name.now) c.args.out.now (fits (goal.at.copy_whole-requires c).Else-not-standard)
 
 pub returns : goal.returns
 returns c =
     let p = c.requires in
     let name = c.args.name.now in
     let o = standard_copied name (λ i. omega (arith, c.type_inv.name i)) p.0 (sym p.1 ∙ c.if-not-standard.false) in
-    (rw (c.copy_from_slice.ensures.after, p.2) o.0, o.1, (begins_start name p.0).short)
+    (rw (c.copy_whole.ensures, p.2) o.0, o.1, (begins_start name p.0).short)

@@ -12,7 +12,7 @@ use Rattle.text.proofs.RunLaws.{rest_whole}
 use Rattle.nametext.specs.Writing.{digits_for}
 use Rattle.nametext.specs.Put.{Labelled}
 use Rattle.nametext.proofs.LabelTextLaws.{bits_inside, bits_labelled, ordinary_inside, ordinary_labelled}
-use Rattle.nametext.proofs.inside.put_label.Goals.{After-count-n, After-put_bits-e, After-from, After-put_octets-e, Start}
+use Rattle.nametext.proofs.inside.put_label.Goals.{After-count-n, After-put_bits-e, After-wide, After-put_octets-e, Start}
 use Rattle.nametext.proofs.inside.put_label.Goals as goal
 
 inside : (c : Start) → c.args.at < length c.args.name.now
@@ -70,25 +70,25 @@ pub returns-then-x-eq65 : goal.returns-then-x-eq65
 returns-then-x-eq65 c = rw c.octets_for.ensures (bits_put (goal.at.returns-then-x-eq65 c).After-put_bits-e (λ i. (c.type_inv.name i).fits)).1
 
 -- an ordinary label
-ordinary_room : (c : After-from) → Small c.args.name.now → let a = c.args in let n = c.from.result in (a.at + 1 + n ≤ length a.name.now) × (a.to + 4 * n < length a.out.now)
+ordinary_room : (c : After-wide) → Small c.args.name.now → let a = c.args in let n = c.wide.result in (a.at + 1 + n ≤ length a.name.now) × (a.to + 4 * n < length a.out.now)
 ordinary_room c s =
     let a = c.args in
-    ordinary_inside a.name.now a.out.now a.out.now a.at c.from.result a.to 0 s c.requires.begins c.requires.nonzero.1 (λ z. omega (arith, c.requires.nonzero.0)) c.if-x-eq65.false c.from.ensures
+    ordinary_inside a.name.now a.out.now a.out.now a.at c.wide.result a.to 0 s c.requires.begins c.requires.nonzero.1 (λ z. omega (arith, c.requires.nonzero.0)) c.if-x-eq65.false c.wide.ensures.0
 
 pub slice_bounds-put_octets-end : goal.slice_bounds-put_octets-end
 slice_bounds-put_octets-end c =
-    let r = ordinary_room (goal.at.slice_bounds-put_octets-end c).After-from (λ i. (c.type_inv.name i).fits) in
-    let h : c.args.at + 1 + c.from.result ≤ length c.args.name.now = r.0 in
+    let r = ordinary_room (goal.at.slice_bounds-put_octets-end c).After-wide (λ i. (c.type_inv.name i).fits) in
+    let h : c.args.at + 1 + c.wide.result ≤ length c.args.name.now = r.0 in
     search rules
 
 ordinary_put : (c : After-put_octets-e) → Small c.args.name.now → let a = c.args in let e = c.put_octets-e.result in
-    (e < length c.put_octets-e.new.out) × Labelled a.name.now a.out.now (set c.put_octets-e.new.out e 46) a.at a.to (placed (a.at + 1 + c.from.result) (e + 1))
+    (e < length c.put_octets-e.new.out) × Labelled a.name.now a.out.now (set c.put_octets-e.new.out e 46) a.at a.to (placed (a.at + 1 + c.wide.result) (e + 1))
 ordinary_put c s =
     let a = c.args in
-    let n = c.from.result in
+    let n = c.wide.result in
     let k : a.at + 1 + n - (a.at + 1) ≡ n = omega arith in
     let p = rw k at c.put_octets-e.ensures in
-    ordinary_labelled a.name.now a.out.now _ a.at n a.to c.put_octets-e.result s c.requires.begins c.requires.nonzero.1 (λ z. omega (arith, c.requires.nonzero.0)) c.if-x-eq65.false c.from.ensures c.put_octets-e.auto.out p
+    ordinary_labelled a.name.now a.out.now _ a.at n a.to c.put_octets-e.result s c.requires.begins c.requires.nonzero.1 (λ z. omega (arith, c.requires.nonzero.0)) c.if-x-eq65.false c.wide.ensures.0 c.put_octets-e.auto.out p
 
 pub bounds-out-e-2 : goal.bounds-out-e-2
 bounds-out-e-2 c = (ordinary_put (goal.at.bounds-out-e-2 c).After-put_octets-e (λ i. (c.type_inv.name i).fits)).0

@@ -6,4 +6,4 @@ use Rattle.numbering.proofs.inside.bucket_of.Goals as goal
 
 pub returns : goal.returns
 unfolding bucket_of
-returns c = ap (λ (v : ℕ). v % buckets) (c.from.ensures ∙ c.mark.ensures)
+returns c = ap (λ (v : ℕ). v % buckets) (c.wide.ensures ∙ c.mark.ensures)

@@ -1,26 +1,35 @@
 -- `plan::inside::enter` meets its contract: a name is held exactly when it is well formed, and the fault is the one that the check gives.
-use mathlib.Core.Path.{ap, sym, ◌∙◌}
-use Rattle.std.proofs.lemmas.Result.{err_from_is_err_and}
+use Prim.Native.Nat.{ℕ}
+use mathlib.Core.Path.{◌≡◌, refl, ◌∙◌, subst}
+use mathlib.Core.Bool.{Bool, not}
+use mathlib.Core.List.{List, []}
+use Rattle.std.specs.Prelude.{Option, Some, None, Result, MatchResult}
+use Rattle.std.specs.Option.{unwrap_or}
 use Rattle.octets.specs.Refusals.{code_of}
+use Rattle.octets.specs.Answers.{earns, or_else}
+use Rattle.labels.specs.Scan.{well_formed}
+use Rattle.names.specs.Name.{name_of, held}
+use Rattle.names.specs.declared.Name.{Name}
+use Rattle.plan.specs.Check.{check_of, entry_number}
+use Rattle.plan.specs.Faults.{fault_in}
 use Rattle.plan.specs.declared.Refused.{Refused}
-use Rattle.plan.proofs.PlaceLaws.{judged_ok}
-use Rattle.plan.proofs.EntryLaws.{entry_refused, entry_name, entry_done, order_place}
 use Rattle.plan.proofs.inside.enter.Goals as goal
 
-pub returns-in_err-check : goal.returns-in_err-check
-returns-in_err-check c =
-    let a = c.args in
-    let p = err_from_is_err_and c.from_residual.result c.from_residual.ensures.1 in
-    rw (p.1, p.2) (entry_refused a.table.now a.name.now _ c.in_err-check.ensures)
+-- what a table and a name earn, by whether the name is well formed
+entered : {A : Type 0} (t name : List ℕ) (b : Bool) (r : Result A Refused) → b ≡ well_formed name
+    → MatchResult r (λ x. or_else (check_of t) (earns (not b) 4 0) ≡ 0) (λ x. (code_of x.refusal ≡ or_else (check_of t) (earns (not b) 4 0)) × (x.fault ≡ fault_in t))
+    → MatchResult r (λ x. entry_number t name ≡ 0) (λ x. (code_of x.refusal ≡ entry_number t name) × (x.fault ≡ fault_in t))
+unfolding entry_number
+entered t name b r e h =
+    subst (λ (w : Bool). MatchResult r (λ x. or_else (check_of t) (earns (not w) 4 0) ≡ 0) (λ x. (code_of x.refusal ≡ or_else (check_of t) (earns (not w) 4 0)) × (x.fault ≡ fault_in t))) e h
 
-pub returns-in_default : goal.returns-in_default
-returns-in_default c =
-    let t = c.args.table.now in
-    let o = judged_ok t c.in_ok-check.ensures in
-    let e = c.from.ensures in
-    (ap (λ (r : Refused). code_of r.refusal) e ∙ sym (entry_name t c.args.name.now o (sym c.in_default.ensures.variant)), ap (λ (r : Refused). r.fault) e ∙ sym (order_place t o))
+-- the name that is held, or none
+kept : (o : Option Name) (n : Name) → n ≡ name_of [] → unwrap_or o n ≡ held o
+kept (Some m) n e = refl
+kept None n e = e
 
-pub returns : goal.returns
-returns c =
-    let t = c.args.table.now in
-    (entry_done t c.args.name.now (judged_ok t c.in_ok-check.ensures) (sym c.in-Some.ensures.variant), c.in-Some.ensures.value)
+pub returns-clause-outcome : goal.returns-clause-outcome
+returns-clause-outcome c = entered c.args.table.now c.args.name.now c.is_some.result c.admit.result (c.is_some.ensures ∙ c.hold-held.ensures.variant) c.admit.ensures
+
+pub returns-clause-name : goal.returns-clause-name
+returns-clause-name c = c.unwrap_or.ensures ∙ kept c.hold-held.result c.none.result c.none.ensures ∙ c.hold-held.ensures.value

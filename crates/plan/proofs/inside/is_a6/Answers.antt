@@ -7,4 +7,4 @@ use Rattle.plan.proofs.inside.is_a6.Goals as goal
 
 pub returns : goal.returns
 unfolding is_type
-returns c = ap (λ (k : ℕ). eqb k a6) c.type_of.ensures
+returns c = ap (λ (k : ℕ). eqb k a6) c.kind_of.ensures

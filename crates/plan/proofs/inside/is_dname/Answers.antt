@@ -7,4 +7,4 @@ use Rattle.plan.proofs.inside.is_dname.Goals as goal
 
 pub returns : goal.returns
 unfolding is_type
-returns c = ap (λ (k : ℕ). eqb k dname) c.type_of.ensures
+returns c = ap (λ (k : ℕ). eqb k dname) c.kind_of.ensures

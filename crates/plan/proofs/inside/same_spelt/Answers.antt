@@ -28,5 +28,5 @@ pub returns : goal.returns
 returns c =
     let n = c.pieces-k.result in
     let a = c.args in
-    c.same_labels.ensures ∙ ap (λ (i : ℕ). walked (take n a.a.now) (take n a.b.now) (1 + i) 1) c.from.ensures
+    c.same_labels.ensures ∙ ap (λ (i : ℕ). walked (take n a.a.now) (take n a.b.now) (1 + i) 1) c.wide.ensures.0
     ∙ slots_walked a.a.now a.b.now c.requires.0 c.requires.1 c.if-n-b.false n c.pieces-k.ensures.0

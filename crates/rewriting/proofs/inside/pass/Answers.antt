@@ -26,6 +26,6 @@ returns-then-x-eq65 c = rw c.octets_for.ensures (turned_bits c.args.name.now c.a
 pub returns : goal.returns
 returns c =
     let a = c.args in
-    let x = c.from.result in
+    let x = c.wide.result in
     let e : a.at + 1 + x ≡ a.at + (x + 1) = omega arith in
     rw e (turned_ordinary a.name.now a.at (x + 1) c.requires.begins (λ h. omega (arith, c.requires.nonzero)) c.if-x-eq65.false (omega arith))

@@ -105,7 +105,7 @@ step-over-requires t c =
       omega (arith, c.decreases, fewer o, ap (λ (w : Memory). free (unused_of r w)) e),
       (
         subst (λ (w : Memory). Fit r w c.with.result.bound) (sym e) (subst (Fit r (without m i)) (sym c.with.ensures.bound) (fit_without o h)),
-        (omega (arith, c.from-target.ensures, target_name o h), c.after-first.ensures),
+        (omega (arith, c.wide-target.ensures, target_name o h), c.after-first.ensures),
       ),
     )
 
@@ -129,11 +129,11 @@ been t c =
       | step-then-first-n w ↦
           let l = w.with in
           subst (λ (v : Search). Leaves b (memory_of v) (onward r m p.bound i (whole p.address) p.ttl)) (sym w.self-is)
-          (subst (Leaves b (memory_of w.over.new.self)) (λ z. search_of r (c.from-target.ensures z) (l.ensures.bound z) (l.ensures.address z) (l.ensures.ttl z) b)
-          (subst (λ (v : Memory). Leaves v (memory_of w.over.new.self) (search_of r c.from-target.result l.result.bound (whole l.result.address) l.result.ttl v)) e w.over.ensures.done))
+          (subst (Leaves b (memory_of w.over.new.self)) (λ z. search_of r (c.wide-target.ensures z) (l.ensures.bound z) (l.ensures.address z) (l.ensures.ttl z) b)
+          (subst (λ (v : Memory). Leaves v (memory_of w.over.new.self) (search_of r c.wide-target.result l.result.bound (whole l.result.address) l.result.ttl v)) e w.over.ensures.done))
       | step-else-first-n w ↦
           let f : length r.owners ≤ get_or b.next (length r.owners + target_of r i) 0 =
-          subst (λ (k : ℕ). length r.owners ≤ k) (c.after-first.ensures ∙ λ z. get_or (u.ensures.next z) (length r.owners + c.from-target.ensures z) 0) w.if-first-n.false in
+          subst (λ (k : ℕ). length r.owners ≤ k) (c.after-first.ensures ∙ λ z. get_or (u.ensures.next z) (length r.owners + c.wide-target.ensures z) 0) w.if-first-n.false in
           subst (λ (v : Search). Leaves b (memory_of v) (onward r m p.bound i (whole p.address) p.ttl)) (sym w.self-is)
           (subst (λ (v : Memory). Leaves b v (onward r m p.bound i (whole p.address) p.ttl)) (sym e) (nothing o (whole p.address) p.ttl h f))
     ]

@@ -21,11 +21,11 @@ loop-i-preserved c =
     let o = c.args.owners.now in
     let next = l.self.next in
     let prev = l.self.prev in
-    let k = length o + c.from.result in
-    let e : k ≡ length o + get_or o l.i 0 = ap (λ (v : ℕ). length o + v) c.from.ensures in
+    let k = length o + c.wide.result in
+    let e : k ≡ length o + get_or o l.i 0 = ap (λ (v : ℕ). length o + v) c.wide.ensures in
     let t = ap (λ (v : ℕ). get_or prev v 0) e in (
       _,
-      chained_as o l.invariant.0 next prev max_nodes l.i l.invariant.1 c.loop-i-test.true _ k k (get_or prev k 0) (c.from-in-loop-i.ensures ∙ t) e refl t,
+      chained_as o l.invariant.0 next prev max_nodes l.i l.invariant.1 c.loop-i-test.true _ k k (get_or prev k 0) (c.wide-in-loop-i.ensures ∙ t) e refl t,
     )
 
 pub returns : goal.returns

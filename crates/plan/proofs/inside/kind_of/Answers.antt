@@ -1,7 +1,7 @@
--- `plan::inside::type_of` meets its contract.
+-- `plan::inside::kind_of` meets its contract.
 use borrow.Author.Rules.{rules}
 use Rattle.plan.specs.Layout.{type_of}
-use Rattle.plan.proofs.inside.type_of.Goals as goal
+use Rattle.plan.proofs.inside.kind_of.Goals as goal
 
 pub returns : goal.returns
 unfolding type_of
