@@ -92,14 +92,6 @@ module _ (t : List ℕ) (b : ℕ) where
   first_past i h m e = first_on (belongs t b) i max_records (omega arith) (refuted (belongs t b i) (λ k. e (belongs_is i k).1))
 
 -- ---- a record's number, and how far a walk has come: to it, or past all records
-pub within_some : (n : ℕ) → n < max_records → within n ≡ Some n
-unfolding within
-within_some n h = rw (lt-ltb n max_records h)
-
-within_none : within max_records ≡ None
-unfolding within
-within_none = refl
-
 abbrev pub reach : Option ℕ → ℕ
 reach None = max_records
 reach (Some j) = j

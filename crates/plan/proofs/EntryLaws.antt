@@ -57,7 +57,7 @@ module _ (t name : List ℕ) where
 
 -- what a table and a name earn, by what came of it
 module _ {A : Type 0} (t name : List ℕ) where
-  pub entered_ok : (r : Result A Refused) (x : A) → r ≡ Ok x → MatchResult r (λ x. entry_number t name ≡ 0) (λ x. (code_of x.refusal ≡ entry_number t name) × (x.fault ≡ fault_in t)) → entry_number t name ≡ 0
+  entered_ok : (r : Result A Refused) (x : A) → r ≡ Ok x → MatchResult r (λ x. entry_number t name ≡ 0) (λ x. (code_of x.refusal ≡ entry_number t name) × (x.fault ≡ fault_in t)) → entry_number t name ≡ 0
   entered_ok r x e h = subst (λ (s : Result A Refused). MatchResult s (λ x. entry_number t name ≡ 0) (λ x. (code_of x.refusal ≡ entry_number t name) × (x.fault ≡ fault_in t))) e h
 
   pub entered_err : (r : Result A Refused) (x : Refused) → r ≡ Err x → MatchResult r (λ x. entry_number t name ≡ 0) (λ x. (code_of x.refusal ≡ entry_number t name) × (x.fault ≡ fault_in t)) → (code_of x.refusal ≡ entry_number t name) × (x.fault ≡ fault_in t)
@@ -65,6 +65,7 @@ module _ {A : Type 0} (t name : List ℕ) where
 
 -- what `enter` gives to one that takes n octets of the name that it holds: a table in order, and the name's standard form
 pub record Enters (t name : List ℕ) (held : Name) (n : ℕ) : Type 0 where
+  pub zero : entry_number t name ≡ 0
   pub order : InOrder t
   pub formed : well_formed name ≡ true
   pub fits : n ≤ length held.octets
@@ -72,13 +73,19 @@ pub record Enters (t name : List ℕ) (held : Name) (n : ℕ) : Type 0 where
   pub standing : Small name → in_standard_form (take n held.octets) ≡ true
 
 pub enters : (t name : List ℕ) (held : Name) (n : ℕ) → length held.octets ≡ 255 → (entry_number t name ≡ 0) × (held ≡ held_of name) → (n ≡ held.length) × (n < 256) → Enters t name held n
-enters t name held n l h w = record { order = sound.0; formed = sound.1; fits = omega (arith, w.1); part = part; standing = λ s. rw part (held_standard name s sound.1) }
+enters t name held n l h w = record { zero = h.0; order = sound.0; formed = sound.1; fits = omega (arith, w.1); part = part; standing = λ s. rw part (held_standard name s sound.1) }
   where
     sound : InOrder t × (well_formed name ≡ true)
     sound = entry_zero t name h.0
 
     part : take n held.octets ≡ standard_of name
     part = held_part name held n h.1 w.0 sound.1
+
+-- the same of what `enter` gives, where nothing is refused
+pub entered : {A : Type 0} (t name : List ℕ) (r : Result A Refused) (x : A) (held : Name) → r ≡ Ok x
+    → MatchResult r (λ x. entry_number t name ≡ 0) (λ x. (code_of x.refusal ≡ entry_number t name) × (x.fault ≡ fault_in t))
+    → held ≡ held_of name → length held.octets ≡ 255 → held.length < 256 → Enters t name held held.length
+entered t name r x held e h n l m = enters t name held held.length l (entered_ok t name r x e h, n) (refl, m)
 
 -- what an operation on a table replies: done, or refused, where the table is in order
 module _ (t : List ℕ) (o : InOrder t) where

@@ -1,5 +1,5 @@
 -- `forward::lookup` meets its contract: each refusal is one law, and the search of the standard form answers for the name.
-use mathlib.Core.Path.{◌≡◌, refl, ap, ◌∙◌, sym}
+use mathlib.Core.Path.{◌≡◌, ap, ◌∙◌, sym}
 use mathlib.Core.Bool.{false}
 use lib.ListN.{length}
 use native.Mathlib.Omega.{arith}
@@ -8,23 +8,16 @@ use Rattle.std.proofs.lemmas.Result.{err_from_is_err_and}
 use Rattle.octets.specs.declared.Refusal.TheVariants.{Output}
 use Rattle.octets.proofs.AnswerLaws.{not_nought}
 use Rattle.octets.proofs.RefusalLaws.{code_some}
-use Rattle.plan.specs.Check.{entry_number}
 use Rattle.plan.specs.Faults.{replying}
-use Rattle.plan.proofs.EntryLaws.{Enters, enters, entered_ok, entered_err, reply_done, reply_refused, reply_fault}
+use Rattle.plan.proofs.EntryLaws.{Enters, entered, entered_err, reply_done, reply_refused, reply_fault}
 use Rattle.forward.specs.Lookup.{misfit}
 use Rattle.forward.proofs.LookupLaws.{lookup_entry, lookup_misfit, refuses, looked, misfit_not}
 use Rattle.forward.proofs.lookup.Goals.{In_ok-entered}
 use Rattle.forward.proofs.lookup.Goals as goal
 
 -- the name that is held
-zero : (c : In_ok-entered) → entry_number c.args.table.now c.args.name.now ≡ 0
-zero c = entered_ok _ _ _ _ c.in_ok-entered.was c.enter-entered.ensures.outcome
-
-held : (c : In_ok-entered) → Enters c.args.table.now c.args.name.now c.enter-entered.result.name c.enter-entered.result.name.length
-held c =
-    let h = c.enter-entered.result.name in
-    let l : length h.octets ≡ 255 = search rules in
-    enters _ _ h _ l (zero c, c.enter-entered.ensures.name) (refl, omega arith)
+taken : (c : In_ok-entered) → Enters c.args.table.now c.args.name.now c.enter-entered.result.name c.enter-entered.result.name.length
+taken c = entered _ _ _ _ _ c.in_ok-entered.was c.enter-entered.ensures.outcome c.enter-entered.ensures.name (search rules) (search rules)
 
 pub returns-in_err-entered : goal.returns-in_err-entered
 returns-in_err-entered c =
@@ -45,10 +38,10 @@ returns-then-is_misfit c =
     let here = (goal.at.returns-then-is_misfit c).In_ok-entered in
     let a = c.args in
     let m = sym (λ i. misfit (c.clear.auto.out i) (c.clear-2.auto.out i)) ∙ sym c.if-is_misfit.ensures in
-    let e = lookup_misfit a.table.now a.name.now a.limit (length a.out.now) (length a.ttls.now) (zero here) m in
+    let e = lookup_misfit a.table.now a.name.now a.limit (length a.out.now) (length a.ttls.now) (taken here).zero m in
     let r = refuses a.table.now a.name.now a.limit (length a.out.now) (length a.ttls.now) 5 (sym e) (not_nought 4) in
     record {
-      reply = rw c.from.ensures (reply_refused a.table.now (held here).order Output ∙ ap (replying a.table.now) r.answer);
+      reply = rw c.from.ensures (reply_refused a.table.now (taken here).order Output ∙ ap (replying a.table.now) r.answer);
       output = c.clear.ensures ∙ r.out;
       lifetimes = c.clear-2.ensures ∙ r.ttls;
     }
@@ -56,7 +49,7 @@ returns-then-is_misfit c =
 pub look-requires-clause-in_order : goal.look-requires-clause-in_order
 look-requires-clause-in_order c =
     let here = (goal.at.look-requires-clause-in_order c).In_ok-entered in
-    ((held here).order, rw c.as_slice.ensures ((held here).standing (λ i. omega (arith, c.type_inv.name i))))
+    ((taken here).order, rw c.as_slice.ensures ((taken here).standing (λ i. omega (arith, c.type_inv.name i))))
 
 pub returns-in_err-done : goal.returns-in_err-done
 returns-in_err-done c =
@@ -65,10 +58,10 @@ returns-in_err-done c =
     let p = err_from_is_err_and c.from_residual-in_err-done.result c.from_residual-in_err-done.ensures.1 in
     let w = c.in_err-done.ensures in
     let m : misfit (length a.out.now) (length a.ttls.now) ≡ false = sym (λ i. misfit (c.clear.auto.out i) (c.clear-2.auto.out i)) ∙ sym c.if-is_misfit.ensures in
-    let r = looked a.table.now a.name.now a.limit (length a.out.now) (length a.ttls.now) (zero here) (λ i. omega (arith, c.type_inv.name i)) m
-    (misfit_not (length a.out.now) (length a.ttls.now) m).1 c.as_slice.result.now (length c.clear.new.out) _ _ _ (c.as_slice.ensures ∙ (held here).part) c.clear.auto.out w.value w.out_after w.lives_after in
+    let r = looked a.table.now a.name.now a.limit (length a.out.now) (length a.ttls.now) (taken here).zero (λ i. omega (arith, c.type_inv.name i)) m
+    (misfit_not (length a.out.now) (length a.ttls.now) m).1 c.as_slice.result.now (length c.clear.new.out) _ _ _ (c.as_slice.ensures ∙ (taken here).part) c.clear.auto.out w.value w.out_after w.lives_after in
     record {
-      reply = rw (p.1, p.2) (reply_refused a.table.now (held here).order _ ∙ ap (replying a.table.now) r.reply);
+      reply = rw (p.1, p.2) (reply_refused a.table.now (taken here).order _ ∙ ap (replying a.table.now) r.reply);
       output = r.written;
       lifetimes = r.lasting;
     }
@@ -79,10 +72,10 @@ returns c =
     let a = c.args in
     let w = c.in_ok-done.ensures in
     let m : misfit (length a.out.now) (length a.ttls.now) ≡ false = sym (λ i. misfit (c.clear.auto.out i) (c.clear-2.auto.out i)) ∙ sym c.if-is_misfit.ensures in
-    let r = looked a.table.now a.name.now a.limit (length a.out.now) (length a.ttls.now) (zero here) (λ i. omega (arith, c.type_inv.name i)) m
-    (misfit_not (length a.out.now) (length a.ttls.now) m).1 c.as_slice.result.now (length c.clear.new.out) _ _ _ (c.as_slice.ensures ∙ (held here).part) c.clear.auto.out w.value w.out_after w.lives_after in
+    let r = looked a.table.now a.name.now a.limit (length a.out.now) (length a.ttls.now) (taken here).zero (λ i. omega (arith, c.type_inv.name i)) m
+    (misfit_not (length a.out.now) (length a.ttls.now) m).1 c.as_slice.result.now (length c.clear.new.out) _ _ _ (c.as_slice.ensures ∙ (taken here).part) c.clear.auto.out w.value w.out_after w.lives_after in
     record {
-      reply = reply_done a.table.now (held here).order c.in_ok-done.done ∙ ap (replying a.table.now) r.reply;
+      reply = reply_done a.table.now (taken here).order c.in_ok-done.done ∙ ap (replying a.table.now) r.reply;
       output = r.written;
       lifetimes = r.lasting;
     }
