@@ -13,7 +13,7 @@ use lib.Seq.{get_or-set_same, get_or-set_other}
 use borrow.Author.Tests.{lt-ltb, ltb-true, ltb-false, eq-eqb, eqb-true}
 use Rattle.octets.proofs.BoolLaws.{clash, refuted}
 use Rattle.names.proofs.StandardLaws.{same_same_name}
-use Rattle.chains.specs.Lists.{pick, up_to}
+use Rattle.chains.specs.Lists.{up_to}
 use Rattle.chains.proofs.ListLaws.{true_both, both_true}
 use Rattle.plan.specs.First.{first_from}
 use Rattle.plan.specs.Layout.{max_records, prefix_of, owner_slot, target_slot, target_of, count_of, record_at, owner_at}
@@ -92,17 +92,24 @@ module _ (t : List ℕ) (b : ℕ) where
   first_past i h m e = first_on (belongs t b) i max_records (omega arith) (refuted (belongs t b i) (λ k. e (belongs_is i k).1))
 
 -- ---- a record's number, and how far a walk has come: to it, or past all records
+pub within_some : (n : ℕ) → n < max_records → within n ≡ Some n
+unfolding within
+within_some n h = rw (lt-ltb n max_records h)
+
+within_none : within max_records ≡ None
+unfolding within
+within_none = refl
+
 abbrev pub reach : Option ℕ → ℕ
 reach None = max_records
 reach (Some j) = j
 
 reach_within : (n : ℕ) → n ≤ max_records → reach (within n) ≡ n
-unfolding within
 reach_within n h = go (ltb n max_records) refl
   where
-    go : (b : Bool) → ltb n max_records ≡ b → reach (pick b (Some n) None) ≡ n
-    go true e = refl
-    go false e = omega (arith, ltb-false n max_records e)
+    go : (b : Bool) → ltb n max_records ≡ b → reach (within n) ≡ n
+    go true e = ap reach (within_some n (ltb-true n max_records e))
+    go false e = let z : n ≡ max_records = omega (arith, ltb-false n max_records e) in ap reach (ap within z ∙ within_none) ∙ sym z
 
 -- ---- linking the records from the last to the first
 linked_none : (t heads next : List ℕ) → count_of t ≤ max_records → length heads ≡ 256 → length next ≡ max_records
